@@ -1,0 +1,3 @@
+-- The rules of residue arithmetic, which a reader has to believe, and the laws, which are proved from them.
+pub mod Rules
+pub mod Laws
