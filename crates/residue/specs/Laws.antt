@@ -6,3 +6,5 @@ pub mod Primes
 pub mod Sums
 pub mod Counting
 pub mod Modulus
+pub mod Products
+pub mod Tables

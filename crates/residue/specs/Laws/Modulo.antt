@@ -4,10 +4,11 @@
 --   multiples-of-mod   and numbers that leave the same remainder differ by multiples of p
 --   mod-mul-left       a factor may be reduced first
 --   mod-mul            both factors may be reduced first
+--   mod-add-mul        a sum of a number and a product may have all its parts reduced first
 --   mod-add-cancel     a summand on both sides is cancelled
 --   pow-pow            a power of a power
 use Prim.Native.Nat.{ℕ, zero, suc, _+_, _*_, _/_, _%_, _^_}
-use native.Mathlib.Nat.{add-mul-mod-self-left, div-add-mod, mul-comm, pow-zero, pow-suc, zero-mul, suc-mul}
+use native.Mathlib.Nat.{add-mod, mod-add-mod, add-mul-mod-self-left, div-add-mod, mul-comm, pow-zero, pow-suc, zero-mul, suc-mul}
 use native.Mathlib.Omega.{arith}
 use mathlib.Core.Path.{_≡_, sym, ap, _∙_}
 use lib.Pow.{pow-add}
@@ -25,6 +26,9 @@ mod-mul-left p a b =
 pub mod-mul : (p a b : ℕ) → (a % p * (b % p)) % p ≡ (a * b) % p
 mod-mul p a b =
     mod-mul-left p a (b % p) ∙ ap (λ n. n % p) (mul-comm a (b % p)) ∙ mod-mul-left p b a ∙ ap (λ n. n % p) (mul-comm b a)
+
+pub mod-add-mul : (p a b c : ℕ) → (a % p + b % p * (c % p)) % p ≡ (a + b * c) % p
+mod-add-mul p a b c = mod-add-mod a p (b % p * (c % p)) ∙ add-mod a (b % p * (c % p)) p ∙ ap (λ n. (a % p + n) % p) (mod-mul p b c) ∙ sym (add-mod a (b * c) p)
 
 pub mod-add-cancel : (p c a b : ℕ) → (a + c) % p ≡ (b + c) % p → a % p ≡ b % p
 mod-add-cancel p c a b e =

@@ -1,12 +1,15 @@
 -- Least residues of integers and signed entries of residues (R2), for every modulus p above 0.
 --
 --   residue-of-parts       the least residue, from what the integer is the difference of
+--   residue-shift          integers that differ by a multiple of p have the same least residue, by their parts
+--   residue-lifted         a difference of natural numbers, lifted by p so that it is a natural number
 --   residue-below          it is below p
 --   residue-of-residue     a number below p is its own least residue
 --   residue-sum, residue-product, residue-negation, residue-difference   it respects these operations
 --   residue-zero           it is 0 exactly when p divides the integer
 --   residue-same           two integers have the same least residue exactly when p divides their difference
 --   residue-close          integers less than p apart with the same least residue are equal
+--   less-modulus           a number below p less p, as the kit writes a negative number
 --   entry-low, entry-high  the signed entry up to (p - 1)/2, and above
 --   residue-of-entry       the signed entry's least residue is the residue
 --   entry-of-residue       the least residue of a number from -(p - 1)/2 to (p - 1)/2 stands for that number
@@ -65,6 +68,19 @@ module _ (p : ℕ) (above : 0 < p) where
       by-parts z
       ∙ mod-of-multiples p (positive z + (p - 1) * negative z) (u + (p - 1) * v) v (negative z)
       (omega (arith, less-one p v above, less-one p (negative z) above))
+
+  pub residue-shift : (z w : ℤ) (a b : ℕ) → positive z + negative w + p * a ≡ positive w + negative z + p * b
+      → leastResidue p z ≡ leastResidue p w
+  residue-shift z w a b e =
+      by-parts z
+      ∙ mod-of-multiples p (positive z + (p - 1) * negative z) (positive w + (p - 1) * negative w) (a + negative w) (b + negative z)
+        (omega (arith, less-one p (negative z) above, less-one p (negative w) above))
+      ∙ sym (by-parts w)
+
+  pub residue-lifted : (x y : ℕ) → leastResidue p (pos (x + p - y % p)) ≡ leastResidue p (pos x -ℤ pos y)
+  residue-lifted x y =
+      sym (residue-shift (pos x -ℤ pos y) (pos (x + p - y % p)) (y / p + 1) 0
+        (omega (arith, parts-difference (pos x) (pos y), div-add-mod y p, mod-lt y above)))
 
   pub residue-below : (z : ℤ) → leastResidue p z < p
   residue-below z = rw (by-parts z) (mod-lt (positive z + (p - 1) * negative z) above)
@@ -153,11 +169,12 @@ module _ (p : ℕ) (above : 0 < p) where
   unfolding signedEntry
   entry-low r h = rw (le-leb r ((p - 1) / 2) h)
 
+  pub less-modulus : (r : ℕ) → r < p → pos r -ℤ pos p ≡ negsuc (p - suc r)
+  less-modulus r h = equal-of-parts (pos r -ℤ pos p) (negsuc (p - suc r)) (omega (arith, parts-difference (pos r) (pos p)))
+
   pub entry-high : (r : ℕ) → (p - 1) / 2 < r → r < p → signedEntry p r ≡ negsuc (p - suc r)
   unfolding signedEntry
-  entry-high r h k =
-      rw (lt-leb r ((p - 1) / 2) h)
-      (equal-of-parts (pos r -ℤ pos p) (negsuc (p - suc r)) (omega (arith, parts-difference (pos r) (pos p))))
+  entry-high r h k = rw (lt-leb r ((p - 1) / 2) h) (less-modulus r k)
 
   pub residue-of-entry : (r : ℕ) → r < p → leastResidue p (signedEntry p r) ≡ r
   residue-of-entry r h =

@@ -1,0 +1,43 @@
+use Prim.Native.Nat.{_*_}
+use mathlib.Core.Path.{refl, _∙_}
+use lib.Dec.{lit≤}
+use mir.Syntax.{w32}
+use mir.Val.{SFits}
+use Rattle.residue.specs.Rules.{modulus}
+use Rattle.residue.specs.Laws.Modulus.{modulus-positive}
+use Rattle.residue.proofs.Signed.{widened, lifted-fits, lifted-natural, lifted-residue}
+use borrow.Author.Needs.{needs}
+use Rattle.residue.proofs.Residue.from_signed.Statement.{statement}
+use Rattle.residue.proofs.Residue.from_signed.Tie as tie
+
+fits : (c : tie.After-struct-told) → SFits w32 (c .before .before .args .entry .0)
+fits c = search needs
+
+cast-lifted : tie.Need-cast-lifted
+cast-lifted c = widened (c .before .before .args .entry .0) (fits c)
+
+cast-lifted-2 : tie.Need-cast-lifted-2
+cast-lifted-2 c = search needs
+
+mul-lifted : tie.Need-mul-lifted
+mul-lifted c = search needs
+
+add-lifted : tie.Need-add-lifted
+add-lifted c = lifted-fits (c .before .before .args .entry .0) (fits c) _ (lit≤ tt) (lit≤ tt)
+
+cast-reduce : tie.Need-cast-reduce
+cast-reduce c = lifted-natural (c .before .before .args .entry .0) (fits c) _ (lit≤ tt) (lit≤ tt)
+
+reduce-requires : tie.Need-reduce-requires
+reduce-requires c κs = search needs
+
+returns : tie.Need-returns
+unfolding modulus
+returns c =
+    c .reduce .ensures
+    ∙ lifted-residue (c .before .before .before .args .entry .0) (fits (c .before)) (2 * modulus) (lit≤ tt) (lit≤ tt) modulus 2 modulus-positive refl
+
+pub from-signed-spec : {M : Type 1} → statement M
+from-signed-spec =
+    tie.close
+    (tie.spec cast-lifted cast-lifted-2 mul-lifted add-lifted cast-reduce reduce-requires returns)
