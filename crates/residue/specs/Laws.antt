@@ -1,10 +1,22 @@
 -- The laws: everything that is proved about the rules. Each file opens with a table of what it states.
+--
+--   Modulo      natural numbers modulo p
+--   Integers    integers by their positive and negative parts
+--   Residues    least residues and signed entries (R2)
+--   Primes      primality from a trial division (R1), Euclid's lemma (R3)
+--   Modulus     the modulus of the delivery is prime (R1)
+--   Powers      powers of two
+--   Tables      a table's rule from one computation over the table (R5)
+--   Sums        sums over a count
+--   Products    exact sums of products in two words
+--   Counting    at most so many things have a property
 pub mod Modulo
 pub mod Integers
 pub mod Residues
 pub mod Primes
-pub mod Sums
-pub mod Counting
 pub mod Modulus
-pub mod Products
+pub mod Powers
 pub mod Tables
+pub mod Sums
+pub mod Products
+pub mod Counting

@@ -4,6 +4,7 @@
 --   residue-shift          integers that differ by a multiple of p have the same least residue, by their parts
 --   residue-lifted         a difference of natural numbers, lifted by p so that it is a natural number
 --   residue-below          it is below p
+--   residue-of-natural     of a natural number it is the remainder
 --   residue-of-residue     a number below p is its own least residue
 --   residue-sum, residue-product, residue-negation, residue-difference   it respects these operations
 --   residue-zero           it is 0 exactly when p divides the integer
@@ -85,9 +86,12 @@ module _ (p : ℕ) (above : 0 < p) where
   pub residue-below : (z : ℤ) → leastResidue p z < p
   residue-below z = rw (by-parts z) (mod-lt (positive z + (p - 1) * negative z) above)
 
-  pub residue-of-residue : (r : ℕ) → r < p → leastResidue p (pos r) ≡ r
+  pub residue-of-natural : (n : ℕ) → leastResidue p (pos n) ≡ n % p
   unfolding leastResidue
-  residue-of-residue r h = mod-eq-of-lt h
+  residue-of-natural n = refl
+
+  pub residue-of-residue : (r : ℕ) → r < p → leastResidue p (pos r) ≡ r
+  residue-of-residue r h = residue-of-natural r ∙ mod-eq-of-lt h
 
   pub residue-sum : (x y : ℤ) → leastResidue p (x +ℤ y) ≡ (leastResidue p x + leastResidue p y) % p
   residue-sum x y =
