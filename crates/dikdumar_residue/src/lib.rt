@@ -3,7 +3,8 @@
 ghost use mathlib.Core.Path.{_≡_};
 ghost use lib.IntN.{pos, _+ℤ_, _-ℤ_, _*ℤ_};
 ghost use Rattle.residue.specs.Rules.{modulus, leastResidue, signedEntry, powerOfTwo};
-use residue::{Entry, Residue};
+use residue::Entry;
+use residue::Residue;
 
 #[no_mangle]
 pub extern "C" fn dikdumar_reduce(x: u32) -> u32

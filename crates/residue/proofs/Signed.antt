@@ -39,7 +39,7 @@ module _ (z : ℤ) (fits : SFits w32 z) where
     sum-is =
         ap (λ y. y +ℤ pos k) (toZ-ofZ widened ∙ toZ-ofZ fits)
         ∙ equal-of-parts (z +ℤ pos k) (pos (positive z + k - negative z))
-          (omega (arith, parts-sum z (pos k), parts-mag z, fits .sfits))
+        (omega (arith, parts-sum z (pos k), parts-mag z, fits .sfits))
 
     pub lifted-fits : SFits w64 (wideSum z k)
     lifted-fits = subst⁻¹ (SFits w64) sum-is (record { sfits = omega (arith, parts-mag z, fits .sfits) })

@@ -18,7 +18,9 @@ pub struct Entry(pub i32);
 impl Residue {
     // p
     pub const MODULUS: u32 = 2_147_483_647;
+
     pub const ZERO: Residue = Residue(0);
+
     pub const ONE: Residue = Residue(1);
 
     // (p - 1)/2, the largest residue that stands for itself

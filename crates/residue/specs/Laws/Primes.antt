@@ -41,18 +41,20 @@ prime-of-test p k h l t = record { above-one = h; divisors = divisors }
   where
     small : (d e : ℕ) → d * e ≡ p → 1 < d → d < k + 2 → ⊥
     small d e q m n = tried p k d t m n (rw (← q) (mul-mod-right d e))
+
     proper : (d e : ℕ) → d * e ≡ p → 1 < d → 1 < e → ⊥
     proper d e q m n =
         elim (decLt d (k + 2)) [
           | yes s ↦ small d e q m s
           | no f ↦ elim (decLt e (k + 2)) [
-              | yes s ↦ small e d (mul-comm e d ∙ q) n s
-              | no g ↦
+            | yes s ↦ small e d (mul-comm e d ∙ q) n s
+            | no g ↦
                 let a : k + 2 ≤ d = omega arith in
                 let b : k + 2 ≤ e = omega arith in
                 omega (arith, mul-le-mul a b)
-            ]
+          ]
         ]
+
     divisors : (d e : ℕ) → d * e ≡ p → (d ≡ 1) ⊎ (d ≡ p)
     divisors zero e q = absurd (omega arith)
     divisors (suc zero) e q = inl refl
@@ -78,10 +80,10 @@ descent (suc bound) p a b prime l h k e =
     elim (ℕ-discrete a 1) [
       | yes one ↦ sym (ap (λ n. n * b % p) one ∙ ap (λ n. n % p) (one-mul b)) ∙ e
       | no more ↦
-        let smaller : p % a < a = mod-lt p h in
-        let proper : (p % a ≡ 0 → ⊥) =
-                λ z. ⊎-elim more (λ q. omega arith) (prime .divisors a (p / a) (omega (arith, div-add-mod p a))) in
-        descent bound p (p % a) b prime (omega arith) (pos-of-ne-zero proper) (omega arith) (remainder-zero p a b e)
+          let smaller : p % a < a = mod-lt p h in
+          let proper : (p % a ≡ 0 → ⊥) =
+          λ z. ⊎-elim more (λ q. omega arith) (prime .divisors a (p / a) (omega (arith, div-add-mod p a))) in
+          descent bound p (p % a) b prime (omega arith) (pos-of-ne-zero proper) (omega arith) (remainder-zero p a b e)
     ]
 
 pub product-zero : (p a b : ℕ) → Prime p → (a * b) % p ≡ 0 → (a % p ≡ 0) ⊎ (b % p ≡ 0)

@@ -75,13 +75,13 @@ module _ (p : ℕ) (above : 0 < p) where
   residue-shift z w a b e =
       by-parts z
       ∙ mod-of-multiples p (positive z + (p - 1) * negative z) (positive w + (p - 1) * negative w) (a + negative w) (b + negative z)
-        (omega (arith, less-one p (negative z) above, less-one p (negative w) above))
+      (omega (arith, less-one p (negative z) above, less-one p (negative w) above))
       ∙ sym (by-parts w)
 
   pub residue-lifted : (x y : ℕ) → leastResidue p (pos (x + p - y % p)) ≡ leastResidue p (pos x -ℤ pos y)
   residue-lifted x y =
       sym (residue-shift (pos x -ℤ pos y) (pos (x + p - y % p)) (y / p + 1) 0
-        (omega (arith, parts-difference (pos x) (pos y), div-add-mod y p, mod-lt y above)))
+      (omega (arith, parts-difference (pos x) (pos y), div-add-mod y p, mod-lt y above)))
 
   pub residue-below : (z : ℤ) → leastResidue p z < p
   residue-below z = rw (by-parts z) (mod-lt (positive z + (p - 1) * negative z) above)

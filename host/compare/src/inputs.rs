@@ -1,0 +1,99 @@
+//! The inputs: corner values in all pairs, and pseudo-random numbers that are
+//! the same in every run.
+
+use apart::P;
+
+/// The corner values as machine words: those of the unsigned numbers, those of
+/// the signed ones by their bits, and the exponents around 30.
+pub fn corners() -> Vec<u32> {
+    let half = (P - 1) / 2;
+    let unsigned = [
+        0,
+        1,
+        2,
+        half - 1,
+        half,
+        half + 1,
+        half + 2,
+        P - 2,
+        P - 1,
+        P,
+        P + 1,
+        1 << 31,
+        2 * P - 1,
+        2 * P,
+        2 * P + 1,
+        (1 << 32) - 1,
+    ];
+    let signed = [
+        -(1 << 31),
+        -P,
+        -P + 1,
+        -half - 2,
+        -half - 1,
+        -half,
+        -half + 1,
+        -2,
+        -1,
+        0,
+        1,
+        half,
+        half + 1,
+        P - 1,
+        P,
+    ];
+    let exponents = 0..=65;
+    let mut words: Vec<u32> = unsigned
+        .into_iter()
+        .chain(exponents)
+        .map(|n| u32::try_from(n).expect("an unsigned 32-bit number"))
+        .chain(
+            signed
+                .into_iter()
+                .map(|n| i32::try_from(n).expect("a signed 32-bit number") as u32),
+        )
+        .collect();
+    words.sort_unstable();
+    words.dedup();
+    words
+}
+
+/// Every pair of corner values.
+pub fn pairs() -> impl Iterator<Item = (u32, u32)> {
+    let corners = corners();
+    corners
+        .clone()
+        .into_iter()
+        .flat_map(move |x| corners.clone().into_iter().map(move |y| (x, y)))
+}
+
+/// `count` pairs of words: one in four within 8 of a corner value, the others
+/// anywhere.
+pub fn random(seed: u64, count: usize) -> impl Iterator<Item = (u32, u32)> {
+    let corners = corners();
+    let mut generator = SplitMix64(seed);
+    let mut word = move || {
+        let bits = generator.next();
+        let anywhere = (bits >> 32) as u32;
+        if bits % 4 == 0 {
+            let corner = corners[(bits >> 8) as usize % corners.len()];
+            corner.wrapping_add(anywhere % 17).wrapping_sub(8)
+        } else {
+            anywhere
+        }
+    };
+    std::iter::repeat_with(move || (word(), word())).take(count)
+}
+
+/// The generator SplitMix64 (Steele, Lea, Flood: Fast Splittable Pseudorandom
+/// Number Generators).
+struct SplitMix64(u64);
+
+impl SplitMix64 {
+    fn next(&mut self) -> u64 {
+        self.0 = self.0.wrapping_add(0x9e37_79b9_7f4a_7c15);
+        let z = (self.0 ^ (self.0 >> 30)).wrapping_mul(0xbf58_476d_1ce4_e5b9);
+        let z = (z ^ (z >> 27)).wrapping_mul(0x94d0_49bb_1331_11eb);
+        z ^ (z >> 31)
+    }
+}
