@@ -1,13 +1,14 @@
 -- Signed machine numbers. A cast or a sum reads a number from its bits and writes it back, which leaves a number that fits as it is.
 --
---   widened           a 32-bit number fits 64 bits
---   lifted z k        the machine's sum of the 32-bit number z and k, in 64 bits
---   lifted-fits       its exact sum fits, where k is from 2^31 to 2^62
---   lifted-natural    the sum is then not negative, and fits as an unsigned number
---   lifted-residue    its least residue is that of z, where k is a multiple of p
+--   widened          a 32-bit number fits 64 bits
+--   wideSum z k      the 32-bit number z, as it is read after the cast to 64 bits, and k added to it
+--   lifted z k       that sum, as it is read from its bits
+--   lifted-fits      the sum fits, where k is from 2^31 to 2^62
+--   lifted-natural   it is then not negative, and fits as an unsigned number
+--   lifted-residue   its least residue is that of z, where k is a multiple of p
 use Prim.Native.Nat.{ℕ, suc, _+_, _-_, _*_, _^_, _≤_, _<_}
 use native.Mathlib.Omega.{arith}
-use mathlib.Core.Path.{_≡_, sym, ap, subst, subst⁻¹, _∙_}
+use mathlib.Core.Path.{_≡_, ap, subst⁻¹, _∙_}
 use lib.Dec.{T}
 use lib.IntN.{ℤ, pos, negsuc, natAbs, _+ℤ_}
 use lib.Signed.{mag, nonNeg}
@@ -18,7 +19,6 @@ use Rattle.residue.specs.Rules.{leastResidue}
 use Rattle.residue.specs.Laws.Integers.{positive, negative, equal-of-parts, parts-sum}
 use Rattle.residue.specs.Laws.Residues.{residue-shift}
 
--- the exact sum, of the number as it is read after the cast
 abbrev pub wideSum : ℤ → ℕ → ℤ
 wideSum z k = toZ w64 (ofZ w64 (toZ w32 (ofZ w32 z))) +ℤ pos k
 

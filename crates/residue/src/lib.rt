@@ -2,7 +2,7 @@
 // first, and each result is fixed by its contract. The rules that the contracts cite are in specs/Rules.antt.
 ghost use mathlib.Core.Path.{_≡_};
 ghost use lib.IntN.{pos, _+ℤ_, _-ℤ_, _*ℤ_};
-ghost use Rattle.residue.specs.Rules.{modulus, leastResidue, signedEntry, powerOfTwo};
+ghost use Rattle.residue.specs.Rules.{modulus, leastResidue, signedEntry};
 
 mod powers;
 mod products;
@@ -48,7 +48,8 @@ impl Residue {
     pub fn reduce(x: u64) -> Residue
         ensures { λ r. ⌜ r .0 ≡ leastResidue modulus (pos x) ⌝ }
     {
-        Residue((x % (Residue::MODULUS as u64)) as u32)
+        let least = x % (Residue::MODULUS as u64);
+        Residue(least as u32)
     }
 
     // The least residue of a signed number, any of the 2^32.
@@ -58,13 +59,6 @@ impl Residue {
         // 2p is added, so that the sum is not negative
         let lifted = (entry.0 as i64) + 2 * (Residue::MODULUS as i64);
         Residue::reduce(lifted as u64)
-    }
-
-    // Two to the power k, and 0 for an exponent above 30.
-    pub fn power_of_two(k: u32) -> Residue
-        ensures { λ r. ⌜ r .0 ≡ powerOfTwo k ⌝ }
-    {
-        Residue(powers::power_of_two(k))
     }
 
     pub fn add(self, other: Residue) -> Residue
@@ -95,7 +89,8 @@ impl Residue {
         if least <= Residue::LARGEST_ENTRY {
             Entry(least as i32)
         } else {
-            Entry((least as i32) - (Residue::MODULUS as i32))
+            let negative = (least as i32) - (Residue::MODULUS as i32);
+            Entry(negative)
         }
     }
 }

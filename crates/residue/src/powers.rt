@@ -1,6 +1,7 @@
-// Powers of two from a table of 31 entries.
+// Powers of two, from a table of 31 entries.
 ghost use mathlib.Core.Path.{_≡_};
 ghost use Rattle.residue.specs.Rules.{powerOfTwo};
+use crate::Residue;
 
 const POWERS: [u32; 31] = [
     1,
@@ -36,9 +37,15 @@ const POWERS: [u32; 31] = [
     1073741824,
 ];
 
-// 2^k for k up to 30, and 0 above.
-pub fn power_of_two(k: u32) -> u32
-    ensures { λ r. ⌜ r ≡ powerOfTwo k ⌝ }
-{
-    if k <= 30 { POWERS[k as usize] } else { 0 }
+impl Residue {
+    // Two to the power k, and 0 for an exponent above 30.
+    pub fn power_of_two(k: u32) -> Residue
+        ensures { λ r. ⌜ r .0 ≡ powerOfTwo k ⌝ }
+    {
+        if 30 < k {
+            return Residue::ZERO;
+        }
+        let power = POWERS[k as usize];
+        Residue(power)
+    }
 }

@@ -4,7 +4,7 @@
 --   prime-of-test       a number above 1 that passes the test, and is below (k + 2)², is prime
 --   prime-positive      a prime is above 0
 --   product-zero        a product that is 0 modulo a prime has a factor that is 0 modulo it
-use Prim.Native.Nat.{ℕ, zero, suc, _+_, _-_, _*_, _/_, _%_, _≤_, _<_}
+use Prim.Native.Nat.{ℕ, zero, suc, _+_, _*_, _/_, _%_, _≤_, _<_}
 use native.Mathlib.Nat.{le-refl, one-mul, mod-lt, zero-mod, mul-mod-right, mul-comm, div-add-mod, mul-le-mul, pos-of-ne-zero, eq-zero-or-pos}
 use native.Mathlib.Omega.{arith}
 use native.Mathlib.Decide.{ℕ-discrete, decLt}

@@ -1,5 +1,6 @@
 -- Least residues of integers and signed entries of residues (R2), for every modulus p above 0.
 --
+--   Divides p z            p divides the integer z
 --   residue-of-parts       the least residue, from what the integer is the difference of
 --   residue-shift          integers that differ by a multiple of p have the same least residue, by their parts
 --   residue-lifted         a difference of natural numbers, lifted by p so that it is a natural number
@@ -27,7 +28,6 @@ use Rattle.residue.specs.Rules.{leastResidue, signedEntry}
 use Rattle.residue.specs.Laws.Modulo.{mod-of-multiples, mod-mul-left, mod-mul, mod-add-cancel}
 use Rattle.residue.specs.Laws.Integers.{positive, negative, equal-of-parts, parts-sum, parts-negation, parts-difference, parts-product}
 
--- p divides the integer z
 abbrev pub Divides : ℕ → ℤ → Type 0
 Divides p z = (k : ℤ) × (z ≡ pos p *ℤ k)
 

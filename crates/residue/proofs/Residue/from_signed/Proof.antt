@@ -1,3 +1,4 @@
+-- 2p is added in 64 bits, where every signed 32-bit number has room, and a multiple of p changes no least residue.
 use Prim.Native.Nat.{_*_}
 use mathlib.Core.Path.{refl, _∙_}
 use lib.Dec.{lit≤}

@@ -4,11 +4,11 @@ use borrow.Author.Needs.{needs}
 use Rattle.residue.proofs.Residue.reduce.Statement.{statement}
 use Rattle.residue.proofs.Residue.reduce.Tie as tie
 
-cast-t2 : tie.Need-cast-t2
-cast-t2 c = search needs
+cast-least : tie.Need-cast-least
+cast-least c = search needs
 
-rem-t3 : tie.Need-rem-t3
-rem-t3 c = search needs
+rem-least : tie.Need-rem-least
+rem-least c = search needs
 
 cast-t4 : tie.Need-cast-t4
 cast-t4 c = search needs
@@ -18,4 +18,4 @@ unfolding modulus leastResidue
 returns c = refl
 
 pub reduce-spec : {M : Type 1} → statement M
-reduce-spec = tie.close (tie.spec cast-t2 rem-t3 cast-t4 returns)
+reduce-spec = tie.close (tie.spec cast-least rem-least cast-t4 returns)

@@ -1,3 +1,4 @@
+-- The second operand is reduced, so that it is below the p that was added; p changes no least residue.
 use mathlib.Core.Path.{_∙_}
 use Rattle.residue.specs.Rules.{modulus}
 use Rattle.residue.specs.Laws.Residues.{residue-lifted}

@@ -1,3 +1,4 @@
+-- The least residue is below 2^31, so the machine reads it as it is; above (p - 1)/2 the rule, too, takes p from it.
 use Prim.Native.Nat.{ℕ, suc, _-_, _%_}
 use native.Mathlib.Nat.{mod-lt}
 use native.Mathlib.Omega.{arith}
@@ -21,18 +22,18 @@ signed x = toZ-pos w32 {n = x % modulus} (omega arith)
 lowered : (x : ℕ) → toZ w32 (x % modulus) -ℤ pos modulus ≡ negsuc (modulus - suc (x % modulus))
 lowered x = ap (λ y. y -ℤ pos modulus) (signed x) ∙ less-modulus modulus modulus-positive (x % modulus) (mod-lt x modulus-positive)
 
-cast-t5 : tie.Need-cast-t5
-cast-t5 c = search needs
-
 cast-t6 : tie.Need-cast-t6
 cast-t6 c = search needs
 
-cast-t7 : tie.Need-cast-t7
-cast-t7 c = search needs
+cast-negative : tie.Need-cast-negative
+cast-negative c = search needs
 
-sub-t8 : tie.Need-sub-t8
+cast-negative-2 : tie.Need-cast-negative-2
+cast-negative-2 c = search needs
+
+sub-negative : tie.Need-sub-negative
 unfolding modulus
-sub-t8 c = subst⁻¹ (SFits w32) (lowered (c .before .before .args .self .0)) (record { sfits = omega arith })
+sub-negative c = subst⁻¹ (SFits w32) (lowered (c .before .before .args .self .0)) (record { sfits = omega arith })
 
 returns : tie.Need-returns
 unfolding modulus leastResidue
@@ -44,8 +45,9 @@ returns-2 : tie.Need-returns-2
 unfolding modulus leastResidue
 returns-2 c =
     let x = c .before .before .args .self .0 in
-    toZ-ofZ (sub-t8 c) ∙ lowered x
+    toZ-ofZ (sub-negative c) ∙ lowered x
     ∙ sym (entry-high modulus modulus-positive (x % modulus) (c .if1 .left) (mod-lt x modulus-positive))
 
 pub to-signed-spec : {M : Type 1} → statement M
-to-signed-spec = tie.close (tie.spec cast-t5 cast-t6 cast-t7 sub-t8 returns returns-2)
+to-signed-spec =
+    tie.close (tie.spec cast-t6 cast-negative cast-negative-2 sub-negative returns returns-2)

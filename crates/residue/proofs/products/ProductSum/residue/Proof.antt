@@ -1,3 +1,4 @@
+-- Both words and 2^32 are reduced before they are put together, so that nothing overflows.
 use Prim.Native.Nat.{_^_}
 use mathlib.Core.Path.{_∙_}
 use Rattle.residue.specs.Rules.{modulus, leastResidue}
