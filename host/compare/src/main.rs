@@ -26,7 +26,7 @@ macro_rules! call {
         Call {
             name: stringify!($name),
             answers: |$x, $y| Answers {
-                library: i64::from(dikdumar::$name($($argument),+)),
+                library: i64::from(dikdumar::residue::$name($($argument),+)),
                 apart: i64::from(apart::$name($($argument),+)),
             },
         }
