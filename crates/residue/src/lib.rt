@@ -26,12 +26,6 @@ impl Residue {
     // (p - 1)/2, the largest residue that stands for itself
     const LARGEST_ENTRY: u32 = (Residue::MODULUS - 1) / 2;
 
-    pub fn modulus() -> u32
-        ensures { λ r. ⌜ r ≡ modulus ⌝ }
-    {
-        Residue::MODULUS
-    }
-
     pub fn zero() -> Residue
         ensures { λ r. ⌜ r .0 ≡ leastResidue modulus (pos 0) ⌝ }
     {
