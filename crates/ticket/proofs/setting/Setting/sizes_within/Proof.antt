@@ -1,0 +1,25 @@
+use borrow.Author.Needs.{needs}
+use Rattle.ticket.specs.Rules.{sizesWithin}
+use Rattle.ticket.proofs.setting.Setting.sizes_within.Statement.{statement}
+use Rattle.ticket.proofs.setting.Setting.sizes_within.Tie as tie
+
+within-requires : tie.Need-within-requires
+within-requires c κs = search needs
+
+within-requires-2 : tie.Need-within-requires-2
+within-requires-2 c κs = search needs
+
+within-requires-3 : tie.Need-within-requires-3
+within-requires-3 c κs = search needs
+
+within-requires-4 : tie.Need-within-requires-4
+within-requires-4 c κs = search needs
+
+returns : tie.Need-returns
+unfolding sizesWithin
+returns c = cc
+
+pub sizes-within-spec : {M : Type 1} → statement M
+sizes-within-spec =
+    tie.close
+    (tie.spec within-requires within-requires-2 within-requires-3 within-requires-4 returns)

@@ -1,0 +1,99 @@
+-- Scans: the first of several numbers that is not 0 makes the answer, over the rule `firstRefusal`.
+--
+--   refusal-none    where all numbers are 0, there is no refusal
+--   refusal-is      the refusal is at i, where the number there is not 0 and those before it are
+--   FirstOther n f i, zeros-or-first   either all of n numbers are 0, or there is a first that is not
+--   after-passed, after-refused   an answer after an earlier one that passes, and after one that refuses
+--   refusal-cong    equal numbers give equal answers
+--   refusal-split   a scan of m + n numbers is a scan of m, then one of the n after them
+use Rattle.ticket.specs.Rules.{first, firstRefusal, after, refusal, unless}
+use Rattle.ticket.specs.Laws.First.{first-none, first-is}
+use Rattle.ticket.specs.declared.Answer.{Answer}
+use Prim.Native.Nat.{ℕ, zero, suc, _+_, _-_, _≤_, _<_}
+use native.Mathlib.Omega.{arith}
+use native.Mathlib.Decide.{ℕ-discrete, decLe}
+use mathlib.Core.Logic.{_⊎_, inl, inr, ⊎-elim}
+use mathlib.Core.Path.{_≡_, refl, sym, ap, _∙_}
+use mathlib.Core.Bool.{Bool, true, false, cond}
+use borrow.Author.Tests.{eq-eqb, ne-eqb}
+
+pub refusal-none : (start n : ℕ) (f : ℕ → ℕ) → ((k : ℕ) → k < n → f k ≡ 0) → firstRefusal start n f ≡ refusal 0 0
+unfolding firstRefusal
+refusal-none start n f h = rw (first-none n _ (λ k l. eq-eqb (f k) 0 (h k l)), eq-eqb n n refl)
+
+pub refusal-is : (start n i : ℕ) (f : ℕ → ℕ) → i < n → ((k : ℕ) → k < i → f k ≡ 0) → (f i ≡ 0 → ⊥)
+    → firstRefusal start n f ≡ refusal (f i) (start + i)
+unfolding firstRefusal
+refusal-is start n i f l h e =
+    rw (first-is n i _ l (λ k m. eq-eqb (f k) 0 (h k m)) (ne-eqb (f i) 0 e), ne-eqb i n (λ d. omega arith))
+
+pub record FirstOther (n : ℕ) (f : ℕ → ℕ) (i : ℕ) : Type 0 where
+  pub within : i < n
+  pub before : (k : ℕ) → k < i → f k ≡ 0
+  pub other : f i ≡ 0 → ⊥
+
+pub zeros-or-first : (n : ℕ) (f : ℕ → ℕ) → ((k : ℕ) → k < n → f k ≡ 0) ⊎ ((i : ℕ) × FirstOther n f i)
+zeros-or-first zero f = inl (λ k l. omega arith)
+zeros-or-first (suc n) f =
+    ⊎-elim
+    (λ h. elim (ℕ-discrete (f n) 0) [
+      | yes e ↦ inl (λ k l. elim (ℕ-discrete k n) [ yes d ↦ ap f d ∙ e | no d ↦ h k (omega arith) ])
+      | no d ↦ inr (n, record { within = omega arith; before = h; other = d })
+    ])
+    (λ h. inr (h .0, record { within = omega (arith, h .1 .within); before = h .1 .before; other = h .1 .other }))
+    (zeros-or-first n f)
+
+pub after-passed : (a b : Answer) → a .number ≡ 0 → after a b ≡ b
+unfolding after
+after-passed a b e = rw (eq-eqb (a .number) 0 e)
+
+pub after-refused : (a b : Answer) → (a .number ≡ 0 → ⊥) → after a b ≡ a
+unfolding after
+after-refused a b d = rw (ne-eqb (a .number) 0 d)
+
+pub refusal-cong : (start n : ℕ) (f g : ℕ → ℕ) → ((k : ℕ) → k < n → f k ≡ g k) → firstRefusal start n f ≡ firstRefusal start n g
+refusal-cong start n f g h =
+    ⊎-elim
+    (λ z. refusal-none start n f z ∙ sym (refusal-none start n g (λ k l. sym (h k l) ∙ z k l)))
+    (λ o. let i = o .0 in
+      let at = o .1 in
+      refusal-is start n i f (at .within) (at .before) (at .other)
+      ∙ ap (λ c. refusal c (start + i)) (h i (at .within))
+      ∙ sym (refusal-is start n i g (at .within) (λ k l. sym (h k (omega (arith, at .within))) ∙ at .before k l) (λ e. at .other (h i (at .within) ∙ e))))
+    (zeros-or-first n f)
+
+pub refusal-split : (start m n : ℕ) (f : ℕ → ℕ)
+    → firstRefusal start (m + n) f ≡ after (firstRefusal start m f) (firstRefusal (start + m) n (λ i. f (m + i)))
+refusal-split start m n f =
+    ⊎-elim
+    (λ z. ⊎-elim
+      (λ y. refusal-none start (m + n) f (all z y) ∙ sym (refusal-none (start + m) n (λ i. f (m + i)) y) ∙ sym (passes z))
+      (λ o. let i = o .0 in
+        let at = o .1 in
+        refusal-is start (m + n) (m + i) f (omega (arith, at .within))
+          (λ k l. elim (decLe m k) [
+            | yes le ↦ ap f (omega arith) ∙ at .before (k - m) (omega arith)
+            | no lt ↦ z k (omega arith)
+          ])
+          (at .other)
+        ∙ ap (refusal (f (m + i))) (omega arith)
+        ∙ sym (refusal-is (start + m) n i (λ i. f (m + i)) (at .within) (at .before) (at .other))
+        ∙ sym (passes z))
+      (zeros-or-first n (λ i. f (m + i))))
+    (λ o. let i = o .0 in
+      let at = o .1 in
+      let e = refusal-is start m i f (at .within) (at .before) (at .other) in
+      refusal-is start (m + n) i f (omega (arith, at .within)) (at .before) (at .other) ∙ sym e
+      ∙ sym (after-refused _ _ (λ d. at .other (sym (ap (λ a. a .number) e) ∙ d))))
+    (zeros-or-first m f)
+  where
+    all : ((k : ℕ) → k < m → f k ≡ 0) → ((k : ℕ) → k < n → f (m + k) ≡ 0) → (k : ℕ) → k < m + n → f k ≡ 0
+    all z y k l =
+        elim (decLe m k) [
+          | yes le ↦ ap f (omega arith) ∙ y (k - m) (omega arith)
+          | no lt ↦ z k (omega arith)
+        ]
+
+    passes : ((k : ℕ) → k < m → f k ≡ 0)
+        → after (firstRefusal start m f) (firstRefusal (start + m) n (λ i. f (m + i))) ≡ firstRefusal (start + m) n (λ i. f (m + i))
+    passes z = after-passed _ _ (ap (λ a. a .number) (refusal-none start m f z))

@@ -1,0 +1,16 @@
+// Reading a ticket: the certificate of one layer's matrix product, with both operands and the quotients and remainders that the
+// reader claims. Every call takes every value of its parameters; the rules that the contracts cite are in specs/Rules.antt.
+mod records;
+mod setting;
+
+pub use setting::Setting;
+
+// What a check says: a number of the published table (0: nothing is wrong), its place, and for a caught ticket the row and the
+// products made.
+#[repr(C)]
+pub struct Answer {
+    pub number: u32,
+    pub place: u32,
+    pub row: u32,
+    pub products: u32,
+}
