@@ -1,1 +1,1 @@
-// Sums over the integers and the soundness of Freivalds' check, as mathematics: the crate has rules and laws (specs/), no code.
+// Sums and matrix products over the integers, and the soundness of Freivalds' check: rules and laws only, in specs/.

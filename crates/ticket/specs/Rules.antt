@@ -20,12 +20,14 @@
 --   recordNumber G t k   the same of record k of the ticket
 --   firstRefusal a n f   the refusal by the first of n numbers that is not 0, its place counted from a; number 0 where all are 0
 --   after x y            the answer x, where it refuses, else y
+--   recordsReading G t   the answer of the tests 4 to 9
 --   reading G t          the answer of the reading and range checks; its number is 0 where they pass
 --   Passes G t           they pass
 --   entryA G t i k, entryB G t k j, quotient G t i j, remainder G t i j   the integers that the records stand for
 --   claim G t i j        what the claim puts for the sum: scale times quotient plus remainder
 --   exactSum G t i j     the exact sum S of row i of A times column j of B
---   FalseIn G t j        some row's claim in column j is untrue
+--   Untrue G t i j       the claim in row i, column j is untrue
+--   FalseIn G t j        the ticket is false in column j
 use Prim.Native.Nat.{ℕ, zero, suc, _+_, _-_, _*_, _/_, _%_, _^_, _<_}
 use mathlib.Core.Path.{_≡_}
 use mathlib.Core.Bool.{Bool, true, false, cond, _&&_}
@@ -179,10 +181,11 @@ firstRefusal start n number =
 unfoldable pub after : Answer → Answer → Answer
 after earlier later = cond (eqb (earlier .number) 0) later earlier
 
+unfoldable pub recordsReading : Setting → List ℕ → Answer
+recordsReading G t = unless (eqb (length t) (ticketLength G)) (refusal 4 0) (firstRefusal 0 (records G) (recordNumber G t))
+
 unfoldable pub reading : Setting → List ℕ → Answer
-reading G t =
-    after (refusal (settingNumber G) 0)
-    (unless (eqb (length t) (ticketLength G)) (refusal 4 0) (firstRefusal 0 (records G) (recordNumber G t)))
+reading G t = after (refusal (settingNumber G) 0) (recordsReading G t)
 
 abbrev pub Passes : Setting → List ℕ → Type 0
 Passes G t = reading G t .number ≡ 0
@@ -214,5 +217,6 @@ exactSum G t i j = sumℤ (G .inner) (λ k. entryA G t i k *ℤ entryB G t k j)
 abbrev pub Untrue : Setting → List ℕ → ℕ → ℕ → Type 0
 Untrue G t i j = claim G t i j ≡ exactSum G t i j → ⊥
 
+-- some row's claim in column j is untrue
 abbrev pub FalseIn : Setting → List ℕ → ℕ → Type 0
-FalseIn G t j = (i : ℕ) × (i < G .rows) × Untrue G t i j
+FalseIn G t j = (j < G .columns) × ((i : ℕ) × (i < G .rows) × Untrue G t i j)

@@ -2,9 +2,11 @@
 ghost use mathlib.Core.Path.{_≡_};
 ghost use Prim.Native.Nat.{_+_, _*_, _≤_, _<_, _^_};
 ghost use lib.ListN.{length};
-ghost use Rattle.ticket.specs.Rules.{after, firstRefusal, recordBytes};
+ghost use Rattle.ticket.specs.Rules.{after, firstRefusal, reading, recordsReading, recordBytes};
+ghost use Rattle.ticket.specs.Laws.Limits.{Counts, Numbers};
 ghost use Rattle.ticket.specs.Laws.Forms.{tested, testedAt, Within};
 use crate::Answer;
+use crate::Setting;
 use residue::Residue;
 
 // The bytes of a record: kind, a zero byte, row, column, and four bytes of value.
@@ -20,11 +22,54 @@ struct Form {
     outside: u32,
 }
 
+// The answer of the reading and range checks, tests 1 to 9; its number is 0 where the ticket passes them.
+pub fn read(setting: Setting, ticket: &[u8]) -> Answer
+    ensures { λ r. ⌜ r ≡ reading setting (now (ticket .entry)) ⌝ }
+{
+    let number = setting.number();
+    if number != 0 {
+        return Answer { number, place: 0, row: 0, products: 0 };
+    }
+    read_records(setting, ticket)
+}
+
 // The little-endian number of four bytes.
 pub fn word(a: u8, b: u8, c: u8, d: u8) -> u32
     ensures { λ r. ⌜ r ≡ a + 256 * b + 65536 * c + 16777216 * d ⌝ }
 {
     (a as u32) + 256 * (b as u32) + 65536 * (c as u32) + 16_777_216 * (d as u32)
+}
+
+// The answer of the tests 4 to 9, where the setting passes the tests before them.
+fn read_records(setting: Setting, ticket: &[u8]) -> Answer
+    requires { ⌜ Counts setting × Numbers setting ⌝ }
+    ensures { λ r. ⌜ r ≡ recordsReading setting (now (ticket .entry)) ⌝ }
+{
+    let count_a = setting.rows * setting.inner;
+    let count_b = setting.inner * setting.columns;
+    let count = setting.rows * setting.columns;
+    let start_q = count_a + count_b;
+    let start_r = start_q + count;
+    let entries = 2 * setting.bound + 1;
+    let half = Residue::power_of_two(setting.width - 1).0;
+    let range = 2 * half;
+    let at_b = RECORD * (count_a as usize);
+    let at_q = RECORD * (start_q as usize);
+    let at_r = RECORD * (start_r as usize);
+    let end = RECORD * ((start_r + count) as usize);
+    if ticket.len() != end {
+        return Answer { number: 4, place: 0, row: 0, products: 0 };
+    }
+
+    let passed = Answer { number: 0, place: 0, row: 0, products: 0 };
+    let form_a = Form { kind: 1, columns: setting.inner, shift: setting.bound, limit: entries, outside: 7 };
+    let read_a = read_part(passed, ticket, form_a, 0, count_a);
+    let form_b = Form { kind: 2, columns: setting.columns, shift: setting.bound, limit: entries, outside: 7 };
+    let read_b = read_part(read_a, &ticket[at_b..], form_b, count_a, count_b);
+    let form_q = Form { kind: 3, columns: setting.columns, shift: half, limit: range, outside: 8 };
+    let read_q = read_part(read_b, &ticket[at_q..], form_q, start_q, count);
+    let form_r = Form { kind: 4, columns: setting.columns, shift: 0, limit: setting.scale, outside: 9 };
+    read_part(read_q, &ticket[at_r..], form_r, start_r, count)
 }
 
 // The earlier answer, where it refuses; else that of count records, of which the first has the number start.

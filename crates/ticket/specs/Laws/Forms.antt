@@ -3,6 +3,8 @@
 --   testedAt b F i r c   the number of record i of b by the form F, which stands in row r, column c
 --   tested b F i         the same, the row and the column from i
 --   Within b F a n       the n records of b, numbered from a, can be read by the form F
+--   from k t, rest       a slice from byte k to the end: what is left of the bytes
+--   within-rest          its records can be read
 --   tested-misformed, tested-large, tested-outside, tested-passed   the number, as the tests come out in order
 --   Scanned b F i r c    the records before i pass, and i is in row r, column c
 --   scanned-none         before the first record
@@ -19,7 +21,8 @@ use mathlib.Core.List.{List}
 use borrow.Author.Tests.{le-ltb, lt-ltb}
 use lib.Dec.{ltb}
 use lib.IntN.{pos, _+ℤ_}
-use lib.ListN.{length}
+use lib.ListN.{length, take, drop, length-drop}
+use lib.Seq.{take-all}
 use Rattle.residue.specs.Rules.{modulus, leastResidue}
 use Rattle.residue.specs.Laws.Modulus.{modulus-is, modulus-positive}
 use Rattle.residue.specs.Laws.Residues.{residue-of-natural}
@@ -38,6 +41,17 @@ pub record Within (bytes : List ℕ) (F : Form) (start count : ℕ) : Type 0 whe
   pub columns : 1 ≤ F .columns
   pub long : recordBytes * count ≤ length bytes
   pub small : start + count < 2 ^ 32
+
+abbrev pub from : ℕ → List ℕ → List ℕ
+from k t = take (length t - k) (drop k t)
+
+pub rest : (k : ℕ) (t : List ℕ) → from k t ≡ drop k t
+rest k t = take-all (length t - k) (drop k t) (omega (arith, length-drop k t))
+
+pub within-rest : (k : ℕ) (t : List ℕ) {F : Form} {start count : ℕ} → 1 ≤ F .columns → recordBytes * count + k ≤ length t
+    → start + count < 2 ^ 32 → Within (from k t) F start count
+within-rest k t columns long small =
+    record { columns = columns; long = rw (rest k t) (omega (arith, length-drop k t)); small = small }
 
 module _ (bytes : List ℕ) (F : Form) (i row column : ℕ) where
   pub tested-misformed : formed bytes i (F .kind) row column ≡ false → 5 ≡ testedAt bytes F i row column

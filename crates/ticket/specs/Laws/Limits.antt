@@ -7,6 +7,8 @@
 --   sizes-of, numbers-of   from the tests
 --   Fitted G               the setting fits, as inequalities
 --   fitted-of              from the test
+--   Counts G, counts       how many records the parts have at most
+--   Half G h, half-of      h is 2^(v - 1), from the table of powers
 --   FitProducts G h, fit-products   the products of the test of the fit, none of them large
 --   fits-by-products       the test of the fit by these products
 --   passed-setting         where settingNumber is 0, all three hold
@@ -47,13 +49,34 @@ pub record Fitted (G : Setting) : Type 0 where
   pub sums : G .inner * (G .bound * G .bound) + G .scale - 1 ≤ 2 ^ (G .width - 1) * G .scale
   pub claims : 2 ^ G .width * G .scale < modulus
 
--- the products of the test of the fit, where half is 2^(v - 1): none is large
+-- half is 2^(v - 1), half of what a shifted quotient is below
+pub record Half (G : Setting) (half : ℕ) : Type 0 where
+  pub power : half ≡ 2 ^ (G .width - 1)
+  pub small : half ≤ 2 ^ 29
+  pub double : 2 * half ≡ 2 ^ G .width
+
+-- the products of the test of the fit: none is large
 pub record FitProducts (G : Setting) (half : ℕ) : Type 0 where
+  pub half-is : Half G half
   pub square : G .bound * G .bound ≤ 32_767 * 32_767
   pub sums : G .inner * (G .bound * G .bound) ≤ 64 * (32_767 * 32_767)
-  pub power : half ≡ 2 ^ (G .width - 1)
   pub shifted : half * G .scale ≤ 2 ^ 29 * 65_536
-  pub double : 2 * half ≡ 2 ^ G .width
+
+-- the records of A, of B and of the claims: none are many
+pub record Counts (G : Setting) : Type 0 where
+  pub sizes : Sizes G
+  pub entries-A : G .rows * G .inner ≤ 32 * 64
+  pub entries-B : G .inner * G .columns ≤ 64 * 32
+  pub claims : G .rows * G .columns ≤ 32 * 32
+
+pub counts : {G : Setting} → Sizes G → Counts G
+counts {G} sizes =
+    record {
+      sizes = sizes;
+      entries-A = mul-le-mul (sizes .rows .1) (sizes .inner .1);
+      entries-B = mul-le-mul (sizes .inner .1) (sizes .columns .1);
+      claims = mul-le-mul (sizes .rows .1) (sizes .columns .1);
+    }
 
 pub sizes-of : (G : Setting) → sizesWithin G ≡ true → Sizes G
 unfolding sizesWithin
@@ -85,27 +108,30 @@ fitted-of G e =
     let h = both (leb (G .inner * (G .bound * G .bound) + G .scale - 1) (2 ^ (G .width - 1) * G .scale)) (ltb (2 ^ G .width * G .scale) modulus) e in
     record { sums = leb-true _ _ (h .0); claims = ltb-true _ _ (h .1) }
 
-pub fit-products : (G : Setting) {half : ℕ} → Sizes G → Numbers G → half ≡ powerOfTwo (G .width - 1) → FitProducts G half
-fit-products G {half} sizes numbers e =
-    let bound : G .bound ≤ 32_767 = omega arith in
-    let square : G .bound * G .bound ≤ 32_767 * 32_767 = mul-le-mul bound bound in
+pub half-of : {G : Setting} {half : ℕ} → Numbers G → half ≡ powerOfTwo (G .width - 1) → Half G half
+half-of {G} {half} numbers e =
     let power : half ≡ 2 ^ (G .width - 1) = e ∙ power-within (G .width - 1) (omega arith) in
     let more : G .width ≡ suc (G .width - 1) = omega arith in
     let small : 2 ^ (G .width - 1) ≤ 2 ^ 29 = pow-mono {j = 29} (omega arith) in
-    let half-small : half ≤ 2 ^ 29 = rw power small in
+    record { power = power; small = rw power small; double = omega (arith, pow-suc 2 (G .width - 1), ap (λ n. 2 ^ n) more) }
+
+pub fit-products : {G : Setting} {half : ℕ} → Sizes G → Numbers G → half ≡ powerOfTwo (G .width - 1) → FitProducts G half
+fit-products {G} {half} sizes numbers e =
+    let bound : G .bound ≤ 32_767 = omega arith in
+    let square : G .bound * G .bound ≤ 32_767 * 32_767 = mul-le-mul bound bound in
+    let h : Half G half = half-of numbers e in
     record {
+      half-is = h;
       square = square;
       sums = mul-le-mul (sizes .inner .1) square;
-      power = power;
-      shifted = mul-le-mul half-small (numbers .scale .1);
-      double = omega (arith, pow-suc 2 (G .width - 1), ap (λ n. 2 ^ n) more);
+      shifted = mul-le-mul (h .small) (numbers .scale .1);
     }
 
 pub fits-by-products : (G : Setting) {half : ℕ} → FitProducts G half
     → (leb (G .inner * (G .bound * G .bound) + G .scale - 1) (half * G .scale) && ltb (2 * half * G .scale) (2 ^ 31 - 1)) ≡ fits G
 unfolding fits
 fits-by-products G {half} p =
-    rw (← p .power, ← p .double, modulus-is)
+    rw (← p .half-is .power, ← p .half-is .double, modulus-is)
 
 -- three tests in order: the number is 0 only where each holds
 tests-passed : (a b c : Bool) → _≡_ {A = ℕ} (unless a 1 (unless b 2 (unless c 3 0))) 0 → (a ≡ true) × (b ≡ true) × (c ≡ true)

@@ -23,31 +23,31 @@ cast-reach : tie.Need-cast-reach
 cast-reach c = search needs
 
 mul-reach : tie.Need-mul-reach
-mul-reach c = omega (arith, fit-products _ (c .before .before .before .before .before .before .pre .0) (c .before .before .before .before .before .before .pre .1) (c .before .before .power-of-two .ensures))
+mul-reach c = omega (arith, fit-products (c .before .before .before .before .before .before .pre .0) (c .before .before .before .before .before .before .pre .1) (c .before .before .power-of-two .ensures))
 
 mul-reach-2 : tie.Need-mul-reach-2
-mul-reach-2 c = omega (arith, fit-products _ (c .before .before .before .before .before .before .pre .0) (c .before .before .before .before .before .before .pre .1) (c .before .before .power-of-two .ensures))
+mul-reach-2 c = omega (arith, fit-products (c .before .before .before .before .before .before .pre .0) (c .before .before .before .before .before .before .pre .1) (c .before .before .power-of-two .ensures))
 
 add-reach : tie.Need-add-reach
-add-reach c = omega (arith, fit-products _ (c .before .before .before .before .before .before .pre .0) (c .before .before .before .before .before .before .pre .1) (c .before .before .power-of-two .ensures))
+add-reach c = omega (arith, fit-products (c .before .before .before .before .before .before .pre .0) (c .before .before .before .before .before .before .pre .1) (c .before .before .power-of-two .ensures))
 
 sub-reach : tie.Need-sub-reach
 sub-reach c = search needs
 
 mul-result : tie.Need-mul-result
-mul-result c = omega (arith, fit-products _ (c .before .before .before .before .before .before .pre .0) (c .before .before .before .before .before .before .pre .1) (c .before .before .power-of-two .ensures))
+mul-result c = omega (arith, fit-products (c .before .before .before .before .before .before .pre .0) (c .before .before .before .before .before .before .pre .1) (c .before .before .power-of-two .ensures))
 
 mul-result-2 : tie.Need-mul-result-2
 mul-result-2 c = search needs
 
 mul-result-3 : tie.Need-mul-result-3
-mul-result-3 c = omega (arith, fit-products _ (c .before .before .before .before .before .before .pre .0) (c .before .before .before .before .before .before .pre .1) (c .before .before .power-of-two .ensures))
+mul-result-3 c = omega (arith, fit-products (c .before .before .before .before .before .before .pre .0) (c .before .before .before .before .before .before .pre .1) (c .before .before .power-of-two .ensures))
 
 cast-result : tie.Need-cast-result
 cast-result c = search needs
 
 returns : tie.Need-returns
-returns c = fits-by-products _ (fit-products _ (c .before .before .before .before .before .before .pre .0) (c .before .before .before .before .before .before .pre .1) (c .before .before .power-of-two .ensures))
+returns c = fits-by-products _ (fit-products (c .before .before .before .before .before .before .pre .0) (c .before .before .before .before .before .before .pre .1) (c .before .before .power-of-two .ensures))
 
 pub fits-spec : {M : Type 1} → statement M
 fits-spec =
