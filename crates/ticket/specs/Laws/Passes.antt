@@ -18,7 +18,7 @@ use lib.Dec.{ltb, eqb}
 use lib.ListN.{length}
 use Rattle.residue.specs.Rules.{modulus}
 use Rattle.ticket.specs.declared.setting.Setting.{Setting}
-use Rattle.ticket.specs.Rules.{Passes, reading, recordsReading, ticketLength, records, recordNumber, settingNumber, refusal, firstRefusal, Part, partA, partB, quotients, remainders, partOf, partNumber, numberOf, formed, valueAt, valueIn, bytesOf}
+use Rattle.ticket.specs.Rules.{Passes, unless, reading, recordsReading, ticketLength, records, recordNumber, settingNumber, refusal, firstRefusal, Part, partA, partB, quotients, remainders, partOf, partNumber, numberOf, formed, valueAt, valueIn, bytesOf}
 use Rattle.ticket.specs.Laws.Scans.{after-passed, after-refused, zeros-or-first, refusal-is}
 use Rattle.ticket.specs.Laws.Limits.{Counts, Numbers, Fitted, counts, passed-setting}
 use Rattle.ticket.specs.Laws.Parts.{in-A, in-B, in-quotients, in-remainders}
@@ -63,11 +63,48 @@ pub record Valid (P : Part) (v : ℕ) : Type 0 where
   pub below : v < modulus
   pub in-range : P .range v ≡ true
 
-pub number-zero : (form : Bool) (value : ℕ) (range : Bool) (outside : ℕ) → (outside ≡ 0 → ⊥) → numberOf form value range outside ≡ 0
-    → (form ≡ true) × (ltb value modulus ≡ true) × (range ≡ true)
-unfolding numberOf
-number-zero false value range outside d e = absurd (omega arith)
-number-zero true value range outside d e = below (ltb value modulus) range d e
-  where
-    below : (b range : Bool) → (outside ≡ 0 → ⊥) → numbered b range ≡ 0 → (true ≡ true) × (b ≡ true) × (range ≡ true)
-    below = ?
+-- three tests in order: the number is 0 only where each holds
+tests-zero : (a b c : Bool) (outside : ℕ) → (outside ≡ 0 → ⊥) → _≡_ {A = ℕ} (unless a 5 (unless b 6 (unless c outside 0))) 0
+    → (a ≡ true) × (b ≡ true) × (c ≡ true)
+tests-zero true true true outside d e = (refl, refl, refl)
+tests-zero true true false outside d e = absurd (d e)
+tests-zero true false c outside d e = absurd (omega arith)
+tests-zero false b c outside d e = absurd (omega arith)
+
+pub number-zero : (t : List ℕ) (P : Part) → (P .outside ≡ 0 → ⊥) → (i : ℕ) → partNumber t P i ≡ 0
+    → (formed (bytesOf t P) i (P .kind) (i / P .columns) (i % P .columns) ≡ true) × Valid P (valueAt (bytesOf t P) i)
+unfolding partNumber numberOf
+number-zero t P d i e =
+    let b = bytesOf t P in
+    let h = tests-zero (formed b i (P .kind) (i / P .columns) (i % P .columns)) (ltb (valueAt b i) modulus) (P .range (valueAt b i)) (P .outside) d e in
+    (h .0, record { below = ltb-true (valueAt b i) modulus (h .1); in-range = h .2 })
+
+module _ {G : Setting} {t : List ℕ} (passed : Passed G t) where
+  -- record i of the part P, where the part holds n records
+  valid-record : (P : Part) (n : ℕ) → (P .outside ≡ 0 → ⊥) → P .start + n ≤ records G
+      → ((i : ℕ) → i < n → partOf G (P .start + i) ≡ P) → (i : ℕ) → i < n → Valid P (valueAt (bytesOf t P) i)
+  unfolding recordNumber
+  valid-record P n d fits inside i l =
+      number-zero t P d i
+      (ap (partNumber t P) (omega arith) ∙ (rw (inside i l) at (passed .passed (P .start + i) (omega arith)))) .1
+
+  pub valid-A : (i k : ℕ) → i < G .rows → k < G .inner → Valid (partA G) (valueIn t (partA G) i k)
+  unfolding valueIn partA records
+  valid-A i k l m =
+      valid-record (partA G) (G .rows * G .inner) (λ e. omega arith) (omega arith) (λ i l. in-A G (0 + i) (omega arith))
+      (i * G .inner + k) (digits-lt l m)
+
+  pub valid-B : (k j : ℕ) → k < G .inner → j < G .columns → Valid (partB G) (valueIn t (partB G) k j)
+  unfolding valueIn partB records
+  valid-B k j l m =
+      valid-record (partB G) (G .inner * G .columns) (λ e. omega arith) (omega arith) (in-B G) (k * G .columns + j) (digits-lt l m)
+
+  pub valid-quotient : (i j : ℕ) → i < G .rows → j < G .columns → Valid (quotients G) (valueIn t (quotients G) i j)
+  unfolding valueIn quotients records
+  valid-quotient i j l m =
+      valid-record (quotients G) (G .rows * G .columns) (λ e. omega arith) (omega arith) (in-quotients G) (i * G .columns + j) (digits-lt l m)
+
+  pub valid-remainder : (i j : ℕ) → i < G .rows → j < G .columns → Valid (remainders G) (valueIn t (remainders G) i j)
+  unfolding valueIn remainders records
+  valid-remainder i j l m =
+      valid-record (remainders G) (G .rows * G .columns) (λ e. omega arith) (omega arith) (λ i l. in-remainders G i) (i * G .columns + j) (digits-lt l m)

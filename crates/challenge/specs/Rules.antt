@@ -1,0 +1,101 @@
+-- The challenge check, Freivalds' check on ticket bytes (tests 10 to 12): the rules. They are all that a reader has to believe
+-- beside those of the crates below; nothing is proved here. G is a setting, t the bytes of a ticket, x a challenge list.
+--
+--   challengeAt G x τ j    number j of vector τ
+--   listNumber x k         11 where number k of the list is not a least residue, else 0
+--   listReading G x        the answer of the tests 10 and 11; its number is 0 where the list is well formed
+--   WellFormed G x         it is
+--   productB G t x τ k     number k of the product u of B and vector τ, modulo p
+--   claimSide G t x τ i    row i of the claims times vector τ, modulo p
+--   operandSide G t x τ i  row i of A times u, modulo p
+--   balanced G t x τ i     the two sides are equal
+--   firstRow G t x τ       the first row that is not balanced for vector τ
+--   firstVector G t x      the first vector that has such a row
+--   vectorProducts G       how many products a whole vector takes
+--   accepted G, caught G τ i   the answers
+--   verdict G t x          the answer of test 12
+--   challengeCheck G t x   the answer of the challenge check
+--   Accepted G t x         its number is 0
+--   DifferIn G j x y       the lists x and y differ in one column only, j
+use Prim.Native.Nat.{ℕ, _+_, _*_, _<_}
+use mathlib.Core.Path.{_≡_}
+use mathlib.Core.Bool.{Bool}
+use mathlib.Core.List.{List}
+use lib.Dec.{ltb, eqb}
+use lib.ListN.{length, getD}
+use lib.IntN.{pos, _*ℤ_}
+use Rattle.residue.specs.Rules.{modulus, leastResidue}
+use Rattle.algebra.specs.Rules.{sumℤ}
+use Rattle.ticket.specs.declared.setting.Setting.{Setting}
+use Rattle.ticket.specs.declared.Answer.{Answer}
+use Rattle.ticket.specs.Rules.{first, unless, refusal, firstRefusal, after, reading, entryA, entryB, claim}
+
+-- the list
+
+abbrev pub challengeAt : Setting → List ℕ → ℕ → ℕ → ℕ
+challengeAt G x τ j = getD x (τ * G .columns + j) 0
+
+unfoldable pub listNumber : List ℕ → ℕ → ℕ
+listNumber x k = unless (ltb (getD x k 0) modulus) 11 0
+
+unfoldable pub listReading : Setting → List ℕ → Answer
+listReading G x =
+    unless (eqb (length x) (G .vectors * G .columns)) (refusal 10 0) (firstRefusal 0 (G .vectors * G .columns) (listNumber x))
+
+abbrev pub WellFormed : Setting → List ℕ → Type 0
+WellFormed G x = listReading G x .number ≡ 0
+
+-- the two sides of a row
+
+unfoldable pub productB : Setting → List ℕ → List ℕ → ℕ → ℕ → ℕ
+productB G t x τ k = leastResidue modulus (sumℤ (G .columns) (λ j. entryB G t k j *ℤ pos (challengeAt G x τ j)))
+
+unfoldable pub claimSide : Setting → List ℕ → List ℕ → ℕ → ℕ → ℕ
+claimSide G t x τ i = leastResidue modulus (sumℤ (G .columns) (λ j. claim G t i j *ℤ pos (challengeAt G x τ j)))
+
+unfoldable pub operandSide : Setting → List ℕ → List ℕ → ℕ → ℕ → ℕ
+operandSide G t x τ i = leastResidue modulus (sumℤ (G .inner) (λ k. entryA G t i k *ℤ pos (productB G t x τ k)))
+
+unfoldable pub balanced : Setting → List ℕ → List ℕ → ℕ → ℕ → Bool
+balanced G t x τ i = eqb (claimSide G t x τ i) (operandSide G t x τ i)
+
+-- the answer
+
+unfoldable pub firstRow : Setting → List ℕ → List ℕ → ℕ → ℕ
+firstRow G t x τ = first (G .rows) (balanced G t x τ)
+
+unfoldable pub firstVector : Setting → List ℕ → List ℕ → ℕ
+firstVector G t x = first (G .vectors) (λ τ. eqb (firstRow G t x τ) (G .rows))
+
+abbrev pub vectorProducts : Setting → ℕ
+vectorProducts G = G .inner * G .columns + G .rows * G .columns + G .rows * G .inner
+
+abbrev pub accepted : Setting → Answer
+accepted G = record { number = 0; place = 0; row = 0; products = G .vectors * vectorProducts G }
+
+abbrev pub caught : Setting → ℕ → ℕ → Answer
+caught G τ i =
+    record {
+      number = 12;
+      place = τ;
+      row = i;
+      products = τ * vectorProducts G + G .inner * G .columns + (i + 1) * (G .columns + G .inner);
+    }
+
+unfoldable pub verdict : Setting → List ℕ → List ℕ → Answer
+verdict G t x =
+    let τ = firstVector G t x in
+    unless (eqb τ (G .vectors)) (caught G τ (firstRow G t x τ)) (accepted G)
+
+unfoldable pub challengeCheck : Setting → List ℕ → List ℕ → Answer
+challengeCheck G t x = after (reading G t) (after (listReading G x) (verdict G t x))
+
+abbrev pub Accepted : Setting → List ℕ → List ℕ → Type 0
+Accepted G t x = challengeCheck G t x .number ≡ 0
+
+-- both are lists of s · n numbers; column j differs for at least one vector, and every other column is equal
+pub record DifferIn (G : Setting) (j : ℕ) (x y : List ℕ) : Type 0 where
+  pub size-x : length x ≡ G .vectors * G .columns
+  pub size-y : length y ≡ G .vectors * G .columns
+  pub differs : (τ : ℕ) × (τ < G .vectors) × (challengeAt G x τ j ≡ challengeAt G y τ j → ⊥)
+  pub elsewhere : (τ k : ℕ) → τ < G .vectors → k < G .columns → (k ≡ j → ⊥) → challengeAt G x τ k ≡ challengeAt G y τ k

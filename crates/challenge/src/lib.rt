@@ -1,0 +1,1 @@
+// The challenge check: Freivalds' check on ticket bytes.
