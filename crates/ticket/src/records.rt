@@ -4,7 +4,7 @@ ghost use Prim.Native.Nat.{_+_, _*_, _≤_, _<_, _^_};
 ghost use lib.ListN.{length};
 ghost use Rattle.ticket.specs.Rules.{after, firstRefusal, reading, recordsReading, recordBytes};
 ghost use Rattle.ticket.specs.Laws.Limits.{Counts, Numbers};
-ghost use Rattle.ticket.specs.Laws.Forms.{tested, testedAt, Within};
+ghost use Rattle.ticket.specs.Laws.Forms.{from, tested, testedAt, Within};
 use crate::Answer;
 use crate::Setting;
 use residue::Residue;
@@ -53,11 +53,8 @@ fn read_records(setting: Setting, ticket: &[u8]) -> Answer
     let entries = 2 * setting.bound + 1;
     let half = Residue::power_of_two(setting.width - 1).0;
     let range = 2 * half;
-    let at_b = RECORD * (count_a as usize);
-    let at_q = RECORD * (start_q as usize);
-    let at_r = RECORD * (start_r as usize);
-    let end = RECORD * ((start_r + count) as usize);
-    if ticket.len() != end {
+    let end = start_r + count;
+    if ticket.len() != RECORD * (end as usize) {
         return Answer { number: 4, place: 0, row: 0, products: 0 };
     }
 
@@ -65,21 +62,23 @@ fn read_records(setting: Setting, ticket: &[u8]) -> Answer
     let form_a = Form { kind: 1, columns: setting.inner, shift: setting.bound, limit: entries, outside: 7 };
     let read_a = read_part(passed, ticket, form_a, 0, count_a);
     let form_b = Form { kind: 2, columns: setting.columns, shift: setting.bound, limit: entries, outside: 7 };
-    let read_b = read_part(read_a, &ticket[at_b..], form_b, count_a, count_b);
+    let read_b = read_part(read_a, ticket, form_b, count_a, count_b);
     let form_q = Form { kind: 3, columns: setting.columns, shift: half, limit: range, outside: 8 };
-    let read_q = read_part(read_b, &ticket[at_q..], form_q, start_q, count);
+    let read_q = read_part(read_b, ticket, form_q, start_q, count);
     let form_r = Form { kind: 4, columns: setting.columns, shift: 0, limit: setting.scale, outside: 9 };
-    read_part(read_q, &ticket[at_r..], form_r, start_r, count)
+    read_part(read_q, ticket, form_r, start_r, count)
 }
 
-// The earlier answer, where it refuses; else that of count records, of which the first has the number start.
-fn read_part(earlier: Answer, records: &[u8], form: Form, start: u32, count: u32) -> Answer
-    requires { ⌜ Within (now records) form start count ⌝ }
-    ensures { λ r. ⌜ r ≡ after earlier (firstRefusal start count (tested (now (records .entry)) form)) ⌝ }
+// The earlier answer, where it refuses; else that of the part of count records from record start on.
+fn read_part(earlier: Answer, ticket: &[u8], form: Form, start: u32, count: u32) -> Answer
+    requires { ⌜ Within (now ticket) form start count ⌝ }
+    ensures { λ r. ⌜ r ≡ after earlier (firstRefusal start count (tested (from (recordBytes * start) (now (ticket .entry))) form)) ⌝ }
 {
     if earlier.number != 0 {
         return earlier;
     }
+    let at = RECORD * (start as usize);
+    let records = &ticket[at..];
     let mut i: u32 = 0;
     let mut row: u32 = 0;
     let mut column: u32 = 0;

@@ -2,9 +2,9 @@
 --
 --   testedAt b F i r c   the number of record i of b by the form F, which stands in row r, column c
 --   tested b F i         the same, the row and the column from i
---   Within b F a n       the n records of b, numbered from a, can be read by the form F
---   from k t, rest       a slice from byte k to the end: what is left of the bytes
---   within-rest          its records can be read
+--   Within t F a n       t has the n records from record a on, and the form F has columns
+--   from k t             a slice of t from byte k to the end
+--   rest, from-long      it holds what is left of the bytes
 --   tested-misformed, tested-large, tested-outside, tested-passed   the number, as the tests come out in order
 --   Scanned b F i r c    the records before i pass, and i is in row r, column c
 --   scanned-none         before the first record
@@ -37,9 +37,9 @@ testedAt bytes F i row column =
 abbrev pub tested : List ℕ → Form → ℕ → ℕ
 tested bytes F i = testedAt bytes F i (i / F .columns) (i % F .columns)
 
-pub record Within (bytes : List ℕ) (F : Form) (start count : ℕ) : Type 0 where
+pub record Within (t : List ℕ) (F : Form) (start count : ℕ) : Type 0 where
   pub columns : 1 ≤ F .columns
-  pub long : recordBytes * count ≤ length bytes
+  pub long : recordBytes * (start + count) ≤ length t
   pub small : start + count < 2 ^ 32
 
 abbrev pub from : ℕ → List ℕ → List ℕ
@@ -48,10 +48,8 @@ from k t = take (length t - k) (drop k t)
 pub rest : (k : ℕ) (t : List ℕ) → from k t ≡ drop k t
 rest k t = take-all (length t - k) (drop k t) (omega (arith, length-drop k t))
 
-pub within-rest : (k : ℕ) (t : List ℕ) {F : Form} {start count : ℕ} → 1 ≤ F .columns → recordBytes * count + k ≤ length t
-    → start + count < 2 ^ 32 → Within (from k t) F start count
-within-rest k t columns long small =
-    record { columns = columns; long = rw (rest k t) (omega (arith, length-drop k t)); small = small }
+pub from-long : (k : ℕ) (t : List ℕ) → length (from k t) ≡ length t - k
+from-long k t = rw (rest k t) (length-drop k t)
 
 module _ (bytes : List ℕ) (F : Form) (i row column : ℕ) where
   pub tested-misformed : formed bytes i (F .kind) row column ≡ false → 5 ≡ testedAt bytes F i row column

@@ -160,13 +160,14 @@ module _ (G : Setting) where
       }
 
   pub parts-in-order : (t : List ℕ) {half : ℕ} {a b c d : Answer} → Numbers G → Half G half
-      → a ≡ after (refusal 0 0) (firstRefusal 0 (G .rows * G .inner) (tested t (record { kind = 1; columns = G .inner; shift = G .bound; limit = 2 * G .bound + 1; outside = 7 })))
+      → a ≡ after (refusal 0 0) (firstRefusal 0 (G .rows * G .inner) (tested (from (recordBytes * partA G .start) t) (record { kind = 1; columns = G .inner; shift = G .bound; limit = 2 * G .bound + 1; outside = 7 })))
       → b ≡ after a (firstRefusal (partB G .start) (G .inner * G .columns) (tested (from (recordBytes * partB G .start) t) (record { kind = 2; columns = G .columns; shift = G .bound; limit = 2 * G .bound + 1; outside = 7 })))
       → c ≡ after b (firstRefusal (quotients G .start) (G .rows * G .columns) (tested (from (recordBytes * quotients G .start) t) (record { kind = 3; columns = G .columns; shift = half; limit = 2 * half; outside = 8 })))
       → d ≡ after c (firstRefusal (remainders G .start) (G .rows * G .columns) (tested (from (recordBytes * remainders G .start) t) (record { kind = 4; columns = G .columns; shift = 0; limit = G .scale; outside = 9 })))
       → d ≡ firstRefusal 0 (records G) (recordNumber G t)
   unfolding partA partB quotients remainders bytesOf records
   parts-in-order t numbers h ea eb ec ed =
+      let ea = rw (rest (recordBytes * partA G .start) t) at ea in
       let eb = rw (rest (recordBytes * partB G .start) t) at eb in
       let ec = rw (rest (recordBytes * quotients G .start) t) at ec in
       let ed = rw (rest (recordBytes * remainders G .start) t) at ed in

@@ -1,25 +1,38 @@
-use Prim.Native.Nat.{_-_, _≤_}
+use Prim.Native.Nat.{_-_, _*_, _≤_}
 use native.Mathlib.Omega.{arith}
 use mathlib.Core.Path.{sym, _∙_}
-use Rattle.ticket.specs.Laws.Forms.{Scanned, scanned-none, scanned-refused, scanned-next, scanned-row}
+use Rattle.ticket.specs.Rules.{recordBytes}
+use Rattle.ticket.specs.Laws.Forms.{from-long, Scanned, scanned-none, scanned-refused, scanned-next, scanned-row}
 use Rattle.ticket.specs.Laws.Scans.{refusal-none, after-passed, after-refused}
 use Rattle.ticket.proofs.records.read_part.Statement.{statement}
 use Rattle.ticket.proofs.records.read_part.Tie as tie
 
 abbrev Inv-loop : tie.InvT-loop
-Inv-loop records form start count i₀ row₀ column₀ i row column = (i ≤ count) × Scanned records form i row column
+Inv-loop ticket form start count at records i₀ row₀ column₀ i row column = (i ≤ count) × Scanned records form i row column
 
 abbrev μ-loop : tie.MeasureT-loop
-μ-loop records form start count i₀ row₀ column₀ i row column = count - i
+μ-loop ticket form start count at records i₀ row₀ column₀ i row column = count - i
 
 returns : tie.Need-returns Inv-loop μ-loop
 returns c = sym (after-refused _ _ (c .if1 .taken))
 
+mul-at : tie.Need-mul-at Inv-loop μ-loop
+mul-at c = omega arith
+
+sub-records : tie.Need-sub-records Inv-loop μ-loop
+sub-records c = omega arith
+
+part-records-start : tie.Need-part-records-start Inv-loop μ-loop
+part-records-start c = omega arith
+
+part-records-end : tie.Need-part-records-end Inv-loop μ-loop
+part-records-end c = omega arith
+
 loop-holds : tie.Need-loop-holds Inv-loop μ-loop
-loop-holds c = (omega arith, scanned-none _ _ (c .before .before .before .pre .columns))
+loop-holds c = (omega arith, scanned-none _ _ (c .before .before .before .before .pre .columns))
 
 record-number-requires : tie.Need-record-number-requires Inv-loop μ-loop
-record-number-requires c κs = omega arith
+record-number-requires c κs = omega (arith, from-long (recordBytes * c .before .before .before .before .before .before .args .start) (c .before .before .before .before .before .before .args .ticket .now))
 
 add-place : tie.Need-add-place Inv-loop μ-loop
 add-place c = omega arith
@@ -27,7 +40,7 @@ add-place c = omega arith
 returns-2 : tie.Need-returns-2 Inv-loop μ-loop
 returns-2 c =
     scanned-refused _ _ (c .before .before .before .loop .inv .1) _ _ (omega arith) (c .before .record-number .ensures) (c .if2 .taken)
-    ∙ sym (after-passed _ _ (c .before .before .before .before .if1 .left))
+    ∙ sym (after-passed _ _ (c .before .before .before .before .before .if1 .left))
 
 add-i : tie.Need-add-i Inv-loop μ-loop
 add-i c = omega arith
@@ -53,7 +66,7 @@ loop-again-2 c = (omega arith, scanned-next _ _ (c .before .before .before .befo
 returns-3 : tie.Need-returns-3 Inv-loop μ-loop
 returns-3 c =
     sym (refusal-none _ _ _ (λ k l. c .before .loop .inv .1 .before k (omega arith)))
-    ∙ sym (after-passed _ _ (c .before .before .if1 .left))
+    ∙ sym (after-passed _ _ (c .before .before .before .if1 .left))
 
 pub read-part-spec : {M : Type 1} → statement M
 read-part-spec =
@@ -62,6 +75,10 @@ read-part-spec =
     Inv-loop
     μ-loop
     returns
+    mul-at
+    sub-records
+    part-records-start
+    part-records-end
     loop-holds
     record-number-requires
     add-place
