@@ -1,1 +1,2 @@
 // The challenge check: Freivalds' check on ticket bytes.
+mod products;

@@ -1,0 +1,4 @@
+-- The laws: everything that is proved about the rules. Each file opens with a table of what it states.
+--
+--   Products   products of records with a vector
+pub mod Products
