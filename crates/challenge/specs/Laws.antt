@@ -1,4 +1,6 @@
 -- The laws: everything that is proved about the rules. Each file opens with a table of what it states.
 --
 --   Products   products of records with a vector
+--   Rows       one row and one vector
 pub mod Products
+pub mod Rows

@@ -1,2 +1,3 @@
 // The challenge check: Freivalds' check on ticket bytes.
 mod products;
+mod rows;

@@ -1,14 +1,22 @@
 -- The laws: everything that is proved about the rules. Each file opens with a table of what it states.
 --
---   First      the first place at which a test fails
---   Scans      the first refusal of several tests
---   Limits     what a setting within its limits gives
---   Forms      the form that the code gives the tests of a part
---   Parts      which record is in which part; the parts in order are the ticket
---   Passes     what a ticket that passes gives
+--   First         the first place at which a test fails
+--   Scans         the first refusal of several tests
+--   Answers       when the number of an answer is 0
+--   Limits        what a setting within its limits gives (T1)
+--   Forms         the form that the code gives the tests of a part
+--   Parts         which record is in which part; the parts in order are the ticket
+--   Passes        what a ticket that passes gives
+--   Layout        record number, part, row and column (T4)
+--   Refusals      when reading refuses, with which number and place (T3)
+--   Differences   how far the claims are from the exact sums
 pub mod First
 pub mod Scans
+pub mod Answers
 pub mod Limits
 pub mod Forms
 pub mod Parts
 pub mod Passes
+pub mod Layout
+pub mod Refusals
+pub mod Differences

@@ -5,6 +5,7 @@ mod setting;
 
 pub use records::read;
 pub use records::word;
+pub use records::RECORD;
 pub use setting::Setting;
 
 // What a check says: a number of the published table (0: nothing is wrong), its place, and for a caught ticket the row and the

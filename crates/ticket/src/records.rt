@@ -10,7 +10,7 @@ use crate::Setting;
 use residue::Residue;
 
 // The bytes of a record: kind, a zero byte, row, column, and four bytes of value.
-const RECORD: usize = 8;
+pub const RECORD: usize = 8;
 
 // What the records of a part have to be. A value is in range where, shift added modulo p, it is below limit; outside is the
 // number of the answer for one that is not.

@@ -13,16 +13,19 @@ use Rattle.challenge.proofs.products.dot.Statement.{statement}
 use Rattle.challenge.proofs.products.dot.Tie as tie
 
 abbrev Inv-loop : tie.InvT-loop
-Inv-loop records vector sum₀ j₀ sum j = (j ≤ length vector) × Holds j (terms records vector) (sum .low) (sum .high)
+Inv-loop records start vector sum₀ j₀ sum j = (j ≤ length vector) × Holds j (terms records start vector) (sum .low) (sum .high)
 
 abbrev μ-loop : tie.MeasureT-loop
-μ-loop records vector sum₀ j₀ sum j = length vector - j
+μ-loop records start vector sum₀ j₀ sum j = length vector - j
 
 new-requires : tie.Need-new-requires Inv-loop μ-loop
 new-requires c κs = search needs
 
 loop-holds : tie.Need-loop-holds Inv-loop μ-loop
 loop-holds c = (omega arith, holds-none _ (c .new .ensures))
+
+add-at : tie.Need-add-at Inv-loop μ-loop
+add-at c = omega arith
 
 mul-at : tie.Need-mul-at Inv-loop μ-loop
 mul-at c = omega arith
@@ -73,17 +76,22 @@ loop-again : tie.Need-loop-again Inv-loop μ-loop
 unfolding valueAt
 loop-again c =
     let j = c .before .before .before .before .before .before .before .before .loop .j in
+    let i = c .before .before .before .before .before .before .before .before .before .before .before .before .args .start + j in
+    let x = c .before .before .before .before .before .before .before .before .before .before .before .before .args .vector .now in
     let v = c .before .before .word .result in
     let v-is = c .before .before .word .ensures in
     let v-small : v < 2 ^ 32 = omega (
       arith,
-      c .before .before .before .before .before .before .shared-slice-known3 .given (recordBytes * j + 4),
-      c .before .before .before .before .before .shared-slice-known4 .given (recordBytes * j + 5),
-      c .before .before .before .before .shared-slice-known5 .given (recordBytes * j + 6),
-      c .before .before .before .shared-slice-known6 .given (recordBytes * j + 7),
+      c .before .before .before .before .before .before .shared-slice-known3 .given (recordBytes * i + 4),
+      c .before .before .before .before .before .shared-slice-known4 .given (recordBytes * i + 5),
+      c .before .before .before .before .shared-slice-known5 .given (recordBytes * i + 6),
+      c .before .before .before .shared-slice-known6 .given (recordBytes * i + 7),
     ) in
-    let x-small : getD (c .before .before .before .before .before .before .before .before .before .before .before .before .args .vector .now) j 0 < 2 ^ 32 = omega (arith, c .before .shared-slice-known7 .given j) in
-    (omega arith, holds-more (omega arith) v-small x-small (ap (λ n. n * getD (c .before .before .before .before .before .before .before .before .before .before .before .before .args .vector .now) j 0) (sym v-is)) (c .before .before .before .before .before .before .before .before .loop .inv .1) (c .add-product .ensures))
+    let x-small : getD x j 0 < 2 ^ 32 = omega (arith, c .before .shared-slice-known7 .given j) in
+    (
+      omega arith,
+      holds-more (omega arith) v-small x-small (ap (λ n. n * getD x j 0) (sym v-is)) (c .before .before .before .before .before .before .before .before .loop .inv .1) (c .add-product .ensures),
+    )
 
 residue-requires : tie.Need-residue-requires Inv-loop μ-loop
 residue-requires c κs = search needs
@@ -91,8 +99,9 @@ residue-requires c κs = search needs
 returns : tie.Need-returns Inv-loop μ-loop
 unfolding dotOf
 returns c =
+    let a = c .before .before .before .before .before .before .args in
     c .residue .ensures ∙ residue-of-natural modulus modulus-positive _
-    ∙ ap (λ n. n % modulus) (holds-exact (c .before .before .loop .inv .1) ∙ ap (λ n. sum n (terms (c .before .before .before .before .before .before .args .records .now) (c .before .before .before .before .before .before .args .vector .now))) (omega arith))
+    ∙ ap (λ n. n % modulus) (holds-exact (c .before .before .loop .inv .1) ∙ ap (λ n. sum n (terms (a .records .now) (a .start) (a .vector .now))) (omega arith))
 
 pub dot-spec : {M : Type 1} → statement M
 dot-spec =
@@ -102,6 +111,7 @@ dot-spec =
     μ-loop
     new-requires
     loop-holds
+    add-at
     mul-at
     add-word
     shared-slice-read-word

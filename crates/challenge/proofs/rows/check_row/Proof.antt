@@ -1,0 +1,96 @@
+use borrow.Author.Needs.{needs}
+use Rattle.challenge.proofs.rows.check_row.Statement.{statement}
+use Rattle.challenge.proofs.rows.check_row.Tie as tie
+
+mul-operands : tie.Need-mul-operands
+mul-operands c = search needs
+
+mul-operands-2 : tie.Need-mul-operands-2
+mul-operands-2 c = search needs
+
+add-operands : tie.Need-add-operands
+add-operands c = search needs
+
+mul-of-a : tie.Need-mul-of-a
+mul-of-a c = search needs
+
+mul-of-quotients : tie.Need-mul-of-quotients
+mul-of-quotients c = search needs
+
+add-of-quotients : tie.Need-add-of-quotients
+add-of-quotients c = search needs
+
+mul-of-remainders : tie.Need-mul-of-remainders
+mul-of-remainders c = search needs
+
+add-of-remainders : tie.Need-add-of-remainders
+add-of-remainders c = search needs
+
+mul-of-remainders-2 : tie.Need-mul-of-remainders-2
+mul-of-remainders-2 c = search needs
+
+add-of-remainders-2 : tie.Need-add-of-remainders-2
+add-of-remainders-2 c = search needs
+
+cast-dot : tie.Need-cast-dot
+cast-dot c = search needs
+
+dot-requires : tie.Need-dot-requires
+dot-requires c κs = search needs
+
+cast-dot-2 : tie.Need-cast-dot-2
+cast-dot-2 c = search needs
+
+dot-requires-2 : tie.Need-dot-requires-2
+dot-requires-2 c κs = search needs
+
+cast-dot-3 : tie.Need-cast-dot-3
+cast-dot-3 c = ?
+
+dot-requires-3 : tie.Need-dot-requires-3
+dot-requires-3 c κs = search needs
+
+multiply-requires : tie.Need-multiply-requires
+multiply-requires c κs = search needs
+
+add-requires : tie.Need-add-requires
+add-requires c κs = search needs
+
+add-made : tie.Need-add-made
+add-made c = ?
+
+add-made-2 : tie.Need-add-made-2
+add-made-2 c = ?
+
+returns : tie.Need-returns
+returns c = ?
+
+returns-2 : tie.Need-returns-2
+returns-2 c = ?
+
+pub check-row-spec : {M : Type 1} → statement M
+check-row-spec =
+    tie.close
+    (tie.spec
+    mul-operands
+    mul-operands-2
+    add-operands
+    mul-of-a
+    mul-of-quotients
+    add-of-quotients
+    mul-of-remainders
+    add-of-remainders
+    mul-of-remainders-2
+    add-of-remainders-2
+    cast-dot
+    dot-requires
+    cast-dot-2
+    dot-requires-2
+    cast-dot-3
+    dot-requires-3
+    multiply-requires
+    add-requires
+    add-made
+    add-made-2
+    returns
+    returns-2)

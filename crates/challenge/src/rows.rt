@@ -1,0 +1,28 @@
+// Test 12: every row, for every vector.
+ghost use mathlib.Core.Path.{_≡_};
+ghost use Rattle.challenge.specs.Laws.Rows.{rowAnswer, rowsAnswer, RowReady};
+use crate::products::dot;
+use residue::Residue;
+use ticket::Answer;
+use ticket::Setting;
+
+// One row of the ticket against vector number t, x, and its product u with B: caught, where the two sides differ. The products
+// made so far are handed in, and go out in the answer with those of this row.
+fn check_row(setting: Setting, ticket: &[u8], x: &[u32], u: &[u32], t: u32, row: u32, products: u32) -> Answer
+    requires { ⌜ RowReady setting (now ticket) (now x) (now u) products row ⌝ }
+    ensures { λ r. ⌜ r ≡ rowAnswer setting (now (ticket .entry)) (now (x .entry)) t row products ⌝ }
+{
+    let operands = setting.rows * setting.inner + setting.inner * setting.columns;
+    let of_a = row * setting.inner;
+    let of_quotients = operands + row * setting.columns;
+    let of_remainders = operands + setting.rows * setting.columns + row * setting.columns;
+    let quotients = dot(ticket, of_quotients as usize, x);
+    let remainders = dot(ticket, of_remainders as usize, x);
+    let product = dot(ticket, of_a as usize, u);
+    let claims = Residue(quotients).multiply(Residue(setting.scale)).add(Residue(remainders)).0;
+    let made = products + setting.columns + setting.inner;
+    if claims != product {
+        return Answer { number: 12, place: t, row, products: made };
+    }
+    Answer { number: 0, place: 0, row: 0, products: made }
+}
