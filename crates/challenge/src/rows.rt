@@ -1,6 +1,6 @@
 // Test 12: every row, for every vector.
 ghost use mathlib.Core.Path.{_≡_};
-ghost use Rattle.challenge.specs.Laws.Rows.{rowAnswer, rowsAnswer, RowReady};
+ghost use Rattle.challenge.specs.Laws.Rows.{rowAnswer, RowReady};
 use crate::products::dot;
 use residue::Residue;
 use ticket::Answer;

@@ -1,4 +1,7 @@
 use borrow.Author.Needs.{needs}
+use native.Mathlib.Omega.{arith}
+use Rattle.ticket.specs.Rules.{quotients, remainders}
+use Rattle.challenge.specs.Laws.Rows.{row-caught, row-balanced}
 use Rattle.challenge.proofs.rows.check_row.Statement.{statement}
 use Rattle.challenge.proofs.rows.check_row.Tie as tie
 
@@ -45,7 +48,7 @@ dot-requires-2 : tie.Need-dot-requires-2
 dot-requires-2 c κs = search needs
 
 cast-dot-3 : tie.Need-cast-dot-3
-cast-dot-3 c = ?
+cast-dot-3 c = omega (arith, c .before .before .before .before .before .before .before .before .before .before .before .pre .inside-A, c .before .before .before .before .before .before .before .before .before .before .before .pre .passed .counts)
 
 dot-requires-3 : tie.Need-dot-requires-3
 dot-requires-3 c κs = search needs
@@ -57,16 +60,18 @@ add-requires : tie.Need-add-requires
 add-requires c κs = search needs
 
 add-made : tie.Need-add-made
-add-made c = ?
+add-made c = omega (arith, c .before .before .before .before .before .before .before .before .before .before .before .before .before .before .before .pre .few, c .before .before .before .before .before .before .before .before .before .before .before .before .before .before .before .pre .passed .counts .sizes)
 
 add-made-2 : tie.Need-add-made-2
-add-made-2 c = ?
+add-made-2 c = omega (arith, c .before .before .before .before .before .before .before .before .before .before .before .before .before .before .before .before .pre .few, c .before .before .before .before .before .before .before .before .before .before .before .before .before .before .before .before .pre .passed .counts .sizes)
 
 returns : tie.Need-returns
-returns c = ?
+unfolding quotients remainders
+returns c = row-caught (c .before .before .before .before .before .before .before .before .before .before .before .before .before .before .before .before .before .pre) (c .before .before .before .before .before .before .before .dot .ensures) (c .before .before .before .before .before .before .dot2 .ensures) (c .before .before .before .before .before .dot3 .ensures) (c .before .before .before .before .multiply .ensures) (c .before .before .before .add .ensures) _ (c .if1 .taken)
 
 returns-2 : tie.Need-returns-2
-returns-2 c = ?
+unfolding quotients remainders
+returns-2 c = row-balanced (c .before .before .before .before .before .before .before .before .before .before .before .before .before .before .before .before .before .pre) (c .before .before .before .before .before .before .before .dot .ensures) (c .before .before .before .before .before .before .dot2 .ensures) (c .before .before .before .before .before .dot3 .ensures) (c .before .before .before .before .multiply .ensures) (c .before .before .before .add .ensures) _ (c .if1 .left)
 
 pub check-row-spec : {M : Type 1} → statement M
 check-row-spec =
