@@ -2,5 +2,7 @@
 --
 --   Products   products of records with a vector
 --   Rows       one row and one vector
+--   Vectors    all rows of one vector, and all vectors
 pub mod Products
 pub mod Rows
+pub mod Vectors
