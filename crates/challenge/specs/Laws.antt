@@ -1,8 +1,16 @@
 -- The laws: everything that is proved about the rules. Each file opens with a table of what it states.
 --
+--   Lists      the tests of a challenge list
 --   Products   products of records with a vector
---   Rows       one row and one vector
+--   Rows       one row of the check
 --   Vectors    all rows of one vector, and all vectors
+--   Checks     the whole check (C1)
+--   Answers    every answer is a row of the published table (C2)
+--   Demands    which lists are accepted, and how many (C3 to C6)
+pub mod Lists
 pub mod Products
 pub mod Rows
 pub mod Vectors
+pub mod Checks
+pub mod Answers
+pub mod Demands

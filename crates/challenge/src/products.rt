@@ -4,8 +4,8 @@ ghost use mathlib.Core.Path.{_≡_};
 ghost use lib.ListN.{length};
 ghost use Rattle.challenge.specs.Laws.Products.{dotOf, Inside, Product, Sized};
 use residue::ProductSum;
-use ticket::word;
 use ticket::RECORD;
+use ticket::word;
 
 // The most rows that a matrix has here: inner, the rows of B.
 const ROWS: usize = 64;
@@ -34,7 +34,12 @@ pub(crate) fn dot(records: &[u8], start: usize, vector: &[u32]) -> u32
     let mut j = 0;
     while j < vector.len() {
         let at = RECORD * (start + j);
-        let value = word(records[at + 4], records[at + 5], records[at + 6], records[at + 7]);
+        let value = word(
+            records[at + 4],
+            records[at + 5],
+            records[at + 6],
+            records[at + 7],
+        );
         sum = sum.add_product(value, vector[j]);
         j += 1;
     }

@@ -3,9 +3,9 @@
 mod records;
 mod setting;
 
+pub use records::RECORD;
 pub use records::read;
 pub use records::word;
-pub use records::RECORD;
 pub use setting::Setting;
 
 // What a check says: a number of the published table (0: nothing is wrong), its place, and for a caught ticket the row and the

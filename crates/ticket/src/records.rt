@@ -28,7 +28,12 @@ pub fn read(setting: Setting, ticket: &[u8]) -> Answer
 {
     let number = setting.number();
     if number != 0 {
-        return Answer { number, place: 0, row: 0, products: 0 };
+        return Answer {
+            number,
+            place: 0,
+            row: 0,
+            products: 0,
+        };
     }
     read_records(setting, ticket)
 }
@@ -55,17 +60,51 @@ fn read_records(setting: Setting, ticket: &[u8]) -> Answer
     let range = 2 * half;
     let end = start_r + count;
     if ticket.len() != RECORD * (end as usize) {
-        return Answer { number: 4, place: 0, row: 0, products: 0 };
+        return Answer {
+            number: 4,
+            place: 0,
+            row: 0,
+            products: 0,
+        };
     }
 
-    let passed = Answer { number: 0, place: 0, row: 0, products: 0 };
-    let form_a = Form { kind: 1, columns: setting.inner, shift: setting.bound, limit: entries, outside: 7 };
+    let passed = Answer {
+        number: 0,
+        place: 0,
+        row: 0,
+        products: 0,
+    };
+    let form_a = Form {
+        kind: 1,
+        columns: setting.inner,
+        shift: setting.bound,
+        limit: entries,
+        outside: 7,
+    };
     let read_a = read_part(passed, ticket, form_a, 0, count_a);
-    let form_b = Form { kind: 2, columns: setting.columns, shift: setting.bound, limit: entries, outside: 7 };
+    let form_b = Form {
+        kind: 2,
+        columns: setting.columns,
+        shift: setting.bound,
+        limit: entries,
+        outside: 7,
+    };
     let read_b = read_part(read_a, ticket, form_b, count_a, count_b);
-    let form_q = Form { kind: 3, columns: setting.columns, shift: half, limit: range, outside: 8 };
+    let form_q = Form {
+        kind: 3,
+        columns: setting.columns,
+        shift: half,
+        limit: range,
+        outside: 8,
+    };
     let read_q = read_part(read_b, ticket, form_q, start_q, count);
-    let form_r = Form { kind: 4, columns: setting.columns, shift: 0, limit: setting.scale, outside: 9 };
+    let form_r = Form {
+        kind: 4,
+        columns: setting.columns,
+        shift: 0,
+        limit: setting.scale,
+        outside: 9,
+    };
     read_part(read_q, ticket, form_r, start_r, count)
 }
 
@@ -86,7 +125,12 @@ fn read_part(earlier: Answer, ticket: &[u8], form: Form, start: u32, count: u32)
         let number = record_number(records, form, i, row, column);
         if number != 0 {
             let place = start + i;
-            return Answer { number, place, row: 0, products: 0 };
+            return Answer {
+                number,
+                place,
+                row: 0,
+                products: 0,
+            };
         }
         i += 1;
         column += 1;
@@ -95,7 +139,12 @@ fn read_part(earlier: Answer, ticket: &[u8], form: Form, start: u32, count: u32)
             row += 1;
         }
     }
-    Answer { number: 0, place: 0, row: 0, products: 0 }
+    Answer {
+        number: 0,
+        place: 0,
+        row: 0,
+        products: 0,
+    }
 }
 
 // The first of the tests that record i fails, which stands in the given row and column; 0 where it passes.
@@ -111,7 +160,12 @@ fn record_number(records: &[u8], form: Form, i: u32, row: u32, column: u32) -> u
     if !formed {
         return 5;
     }
-    let value = word(records[at + 4], records[at + 5], records[at + 6], records[at + 7]);
+    let value = word(
+        records[at + 4],
+        records[at + 5],
+        records[at + 6],
+        records[at + 7],
+    );
     if Residue::MODULUS <= value {
         return 6;
     }

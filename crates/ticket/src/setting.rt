@@ -40,7 +40,10 @@ impl Setting {
     fn sizes_within(self) -> bool
         ensures { λ r. ⌜ r ≡ sizesWithin self ⌝ }
     {
-        within(1, 32, self.rows) & within(1, 64, self.inner) & within(1, 32, self.columns) & within(1, 8, self.vectors)
+        within(1, 32, self.rows)
+            & within(1, 64, self.inner)
+            & within(1, 32, self.columns)
+            & within(1, 8, self.vectors)
     }
 
     fn numbers_within(self) -> bool

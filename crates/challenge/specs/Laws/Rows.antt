@@ -77,10 +77,10 @@ module _ {G : Setting} {t : List ℕ} (passed : Passed G t) (x : List ℕ) (one 
       let r : ℕ → ℕ = λ j. valueIn t (remainders G) i j * getD x j 0 in
       residue-dot modulus modulus-positive (G .columns) (claim G t i) (λ j. getD x (0 * G .columns + j) 0)
       ∙ sum-mod-cong (G .columns) modulus _ (λ j. G .scale * q j + r j) (λ j m.
-        let v = G .scale * valueIn t (quotients G) i j + valueIn t (remainders G) i j in
-        let at : 0 * G .columns + j ≡ j = omega arith in
-        let spread : v * getD x j 0 ≡ G .scale * q j + r j = omega arith in
-        rw (at, residue-claim i j l m) (mod-mul-left modulus v (getD x j 0)) ∙ ap (λ n. n % modulus) spread)
+      let v = G .scale * valueIn t (quotients G) i j + valueIn t (remainders G) i j in
+      let at : 0 * G .columns + j ≡ j = omega arith in
+      let spread : v * getD x j 0 ≡ G .scale * q j + r j = omega arith in
+      rw (at, residue-claim i j l m) (mod-mul-left modulus v (getD x j 0)) ∙ ap (λ n. n % modulus) spread)
       ∙ ap (λ n. n % modulus)
       (sum-add (G .columns) (λ j. G .scale * q j) r ∙ ap (λ n. n + sum (G .columns) r) (sum-scale (G .columns) (G .scale) q)
       ∙ ap (λ n. G .scale * sum n q + sum n r) (sym one))

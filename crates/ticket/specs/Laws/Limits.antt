@@ -7,7 +7,7 @@
 --   sizes-of, numbers-of   from the tests
 --   Fitted G               the setting fits, as inequalities
 --   fitted-of              from the test
---   Counts G, counts       how many records the parts have at most
+--   Counts G, counts       how many records the parts have at most, and numbers a challenge list
 --   Half G h, half-of      h is 2^(v - 1), from the table of powers
 --   FitProducts G h, fit-products   the products of the test of the fit, none of them large
 --   fits-by-products       the test of the fit by these products
@@ -62,12 +62,13 @@ pub record FitProducts (G : Setting) (half : ℕ) : Type 0 where
   pub sums : G .inner * (G .bound * G .bound) ≤ 64 * (32_767 * 32_767)
   pub shifted : half * G .scale ≤ 2 ^ 29 * 65_536
 
--- the records of A, of B and of the claims: none are many
+-- the records of A, of B and of the claims, and the numbers of a challenge list: none are many
 pub record Counts (G : Setting) : Type 0 where
   pub sizes : Sizes G
   pub entries-A : G .rows * G .inner ≤ 32 * 64
   pub entries-B : G .inner * G .columns ≤ 64 * 32
   pub claims : G .rows * G .columns ≤ 32 * 32
+  pub challenges : G .vectors * G .columns ≤ 8 * 32
 
 pub counts : {G : Setting} → Sizes G → Counts G
 counts {G} sizes =
@@ -76,6 +77,7 @@ counts {G} sizes =
       entries-A = mul-le-mul (sizes .rows .1) (sizes .inner .1);
       entries-B = mul-le-mul (sizes .inner .1) (sizes .columns .1);
       claims = mul-le-mul (sizes .rows .1) (sizes .columns .1);
+      challenges = mul-le-mul (sizes .vectors .1) (sizes .columns .1);
     }
 
 pub sizes-of : (G : Setting) → sizesWithin G ≡ true → Sizes G

@@ -123,8 +123,8 @@ pub part-next : (G : Setting) (t : List ℕ) {F : Form} {P : Part} (n : ℕ) →
 unfolding recordNumber
 part-next G t {F} {P} n tests inside {earlier} {answer} e a =
     let here : firstRefusal (P .start) n (tested (bytesOf t P) F) ≡ firstRefusal (P .start) n (λ i. recordNumber G t (P .start + i)) =
-        refusal-cong (P .start) n _ _
-        (λ i l. tested-part t tests i ∙ sym (rw (inside i l) (ap (partNumber t P) (omega arith)))) in
+    refusal-cong (P .start) n _ _
+    (λ i l. tested-part t tests i ∙ sym (rw (inside i l) (ap (partNumber t P) (omega arith)))) in
     let start : 0 + P .start ≡ P .start = omega arith in
     a ∙ rw (e, here) (sym (rw start at (refusal-split 0 (P .start) n (recordNumber G t))))
 

@@ -44,7 +44,7 @@ passed-of G t e =
       | no d ↦ absurd (d (sym (ap (λ a. a .number) (after-refused (refusal (settingNumber G) 0) (recordsReading G t) d)) ∙ e))
       | yes s ↦
           let rest : recordsReading G t .number ≡ 0 =
-              sym (ap (λ a. a .number) (after-passed (refusal (settingNumber G) 0) (recordsReading G t) s)) ∙ e in
+          sym (ap (λ a. a .number) (after-passed (refusal (settingNumber G) 0) (recordsReading G t) s)) ∙ e in
           elim (ℕ-discrete (length t) (ticketLength G)) [
             | no d ↦ let four : _≡_ {A = ℕ} 4 0 = rw (ne-eqb (length t) (ticketLength G) d) at rest in absurd (omega arith)
             | yes l ↦

@@ -56,10 +56,10 @@ refusal-cong start n f g h =
     ⊎-elim
     (λ z. refusal-none start n f z ∙ sym (refusal-none start n g (λ k l. sym (h k l) ∙ z k l)))
     (λ o. let i = o .0 in
-      let at = o .1 in
-      refusal-is start n i f (at .within) (at .before) (at .other)
-      ∙ ap (λ c. refusal c (start + i)) (h i (at .within))
-      ∙ sym (refusal-is start n i g (at .within) (λ k l. sym (h k (omega (arith, at .within))) ∙ at .before k l) (λ e. at .other (h i (at .within) ∙ e))))
+    let at = o .1 in
+    refusal-is start n i f (at .within) (at .before) (at .other)
+    ∙ ap (λ c. refusal c (start + i)) (h i (at .within))
+    ∙ sym (refusal-is start n i g (at .within) (λ k l. sym (h k (omega (arith, at .within))) ∙ at .before k l) (λ e. at .other (h i (at .within) ∙ e))))
     (zeros-or-first n f)
 
 pub refusal-split : (start m n : ℕ) (f : ℕ → ℕ)
@@ -67,24 +67,24 @@ pub refusal-split : (start m n : ℕ) (f : ℕ → ℕ)
 refusal-split start m n f =
     ⊎-elim
     (λ z. ⊎-elim
-      (λ y. refusal-none start (m + n) f (all z y) ∙ sym (refusal-none (start + m) n (λ i. f (m + i)) y) ∙ sym (passes z))
-      (λ o. let i = o .0 in
-        let at = o .1 in
-        refusal-is start (m + n) (m + i) f (omega (arith, at .within))
-          (λ k l. elim (decLe m k) [
-            | yes le ↦ ap f (omega arith) ∙ at .before (k - m) (omega arith)
-            | no lt ↦ z k (omega arith)
-          ])
-          (at .other)
-        ∙ ap (refusal (f (m + i))) (omega arith)
-        ∙ sym (refusal-is (start + m) n i (λ i. f (m + i)) (at .within) (at .before) (at .other))
-        ∙ sym (passes z))
-      (zeros-or-first n (λ i. f (m + i))))
+    (λ y. refusal-none start (m + n) f (all z y) ∙ sym (refusal-none (start + m) n (λ i. f (m + i)) y) ∙ sym (passes z))
     (λ o. let i = o .0 in
-      let at = o .1 in
-      let e = refusal-is start m i f (at .within) (at .before) (at .other) in
-      refusal-is start (m + n) i f (omega (arith, at .within)) (at .before) (at .other) ∙ sym e
-      ∙ sym (after-refused _ _ (λ d. at .other (sym (ap (λ a. a .number) e) ∙ d))))
+    let at = o .1 in
+    refusal-is start (m + n) (m + i) f (omega (arith, at .within))
+    (λ k l. elim (decLe m k) [
+      | yes le ↦ ap f (omega arith) ∙ at .before (k - m) (omega arith)
+      | no lt ↦ z k (omega arith)
+    ])
+    (at .other)
+    ∙ ap (refusal (f (m + i))) (omega arith)
+    ∙ sym (refusal-is (start + m) n i (λ i. f (m + i)) (at .within) (at .before) (at .other))
+    ∙ sym (passes z))
+    (zeros-or-first n (λ i. f (m + i))))
+    (λ o. let i = o .0 in
+    let at = o .1 in
+    let e = refusal-is start m i f (at .within) (at .before) (at .other) in
+    refusal-is start (m + n) i f (omega (arith, at .within)) (at .before) (at .other) ∙ sym e
+    ∙ sym (after-refused _ _ (λ d. at .other (sym (ap (λ a. a .number) e) ∙ d))))
     (zeros-or-first m f)
   where
     all : ((k : ℕ) → k < m → f k ≡ 0) → ((k : ℕ) → k < n → f (m + k) ≡ 0) → (k : ℕ) → k < m + n → f k ≡ 0

@@ -87,8 +87,7 @@ loop-again c =
       c .before .before .before .before .shared-slice-known5 .given (recordBytes * i + 6),
       c .before .before .before .shared-slice-known6 .given (recordBytes * i + 7),
     ) in
-    let x-small : getD x j 0 < 2 ^ 32 = omega (arith, c .before .shared-slice-known7 .given j) in
-    (
+    let x-small : getD x j 0 < 2 ^ 32 = omega (arith, c .before .shared-slice-known7 .given j) in (
       omega arith,
       holds-more (omega arith) v-small x-small (ap (λ n. n * getD x j 0) (sym v-is)) (c .before .before .before .before .before .before .before .before .loop .inv .1) (c .add-product .ensures),
     )

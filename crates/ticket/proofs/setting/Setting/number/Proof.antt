@@ -25,11 +25,11 @@ fits-requires c κs = (sizes-of _ (sym (c .before .before .before .sizes-within 
 
 returns-3 : tie.Need-returns-3
 unfolding settingNumber
-returns-3 c = rw (sym (c .before .before .before .before .before .sizes-within .ensures) ∙ not-false _ (c .before .before .before .before .if1 .left), sym (c .before .before .before .numbers-within .ensures) ∙ not-false _ (c .before .before .if2 .left),  sym (c .before .fits2 .ensures) ∙ not-true _ (c .if3 .taken))
+returns-3 c = rw (sym (c .before .before .before .before .before .sizes-within .ensures) ∙ not-false _ (c .before .before .before .before .if1 .left), sym (c .before .before .before .numbers-within .ensures) ∙ not-false _ (c .before .before .if2 .left), sym (c .before .fits2 .ensures) ∙ not-true _ (c .if3 .taken))
 
 returns-4 : tie.Need-returns-4
 unfolding settingNumber
-returns-4 c = rw (sym (c .before .before .before .before .before .sizes-within .ensures) ∙ not-false _ (c .before .before .before .before .if1 .left), sym (c .before .before .before .numbers-within .ensures) ∙ not-false _ (c .before .before .if2 .left),  sym (c .before .fits2 .ensures) ∙ not-false _ (c .if3 .left))
+returns-4 c = rw (sym (c .before .before .before .before .before .sizes-within .ensures) ∙ not-false _ (c .before .before .before .before .if1 .left), sym (c .before .before .before .numbers-within .ensures) ∙ not-false _ (c .before .before .if2 .left), sym (c .before .fits2 .ensures) ∙ not-false _ (c .if3 .left))
 
 pub number-spec : {M : Type 1} → statement M
 number-spec =

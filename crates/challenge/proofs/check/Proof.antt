@@ -1,0 +1,32 @@
+use borrow.Author.Needs.{needs}
+use mathlib.Core.Path.{sym, ap, _∙_}
+use Rattle.ticket.specs.Laws.Passes.{passed-of}
+use Rattle.challenge.specs.Laws.Checks.{check-ticket, check-list, check-rows, list-ready}
+use Rattle.challenge.proofs.check.Statement.{statement}
+use Rattle.challenge.proofs.check.Tie as tie
+
+read-requires : tie.Need-read-requires
+read-requires c κs = search needs
+
+returns : tie.Need-returns
+returns c = check-ticket _ _ _ (c .before .before .read .ensures) (c .if1 .taken)
+
+read-list-requires : tie.Need-read-list-requires
+read-list-requires c κs =
+    passed-of _ _ (sym (ap (λ a. a .number) (c .before .before .read .ensures)) ∙ c .if1 .left) .counts
+
+returns-2 : tie.Need-returns-2
+returns-2 c = check-list _ _ _ (c .before .before .before .before .before .read .ensures) (c .before .before .before .if1 .left) (c .before .before .read-list .ensures) (c .if2 .taken)
+
+check-vectors-requires : tie.Need-check-vectors-requires
+check-vectors-requires c κs =
+    list-ready _ _ _ (c .before .before .before .before .before .read .ensures) (c .before .before .before .if1 .left) (c .before .before .read-list .ensures) (c .if2 .left)
+
+returns-3 : tie.Need-returns-3
+returns-3 c =
+    check-rows _ _ _ (c .before .before .before .before .before .before .read .ensures) (c .before .before .before .before .if1 .left) (c .before .before .before .read-list .ensures) (c .before .if2 .left) (c .check-vectors .ensures)
+
+pub check-spec : {M : Type 1} → statement M
+check-spec =
+    tie.close
+    (tie.spec read-requires returns read-list-requires returns-2 check-vectors-requires returns-3)

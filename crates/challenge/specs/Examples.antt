@@ -1,0 +1,134 @@
+-- The worked examples a to f and h to k of the request, under the setting K: one table that the checker computes over the rules.
+use Prim.Native.Nat.{ℕ, _+_, _-_, _*_, _/_, _%_}
+use mathlib.Core.Path.{_≡_, refl}
+use mathlib.Core.List.{List, [], _∷_, _++_, map}
+use lib.IntN.{ℤ, pos, negℤ}
+use lib.ListN.{take, drop}
+use Rattle.residue.specs.Rules.{modulus, leastResidue, signedEntry}
+use Rattle.algebra.specs.Rules.{sumℤ}
+use Rattle.ticket.specs.declared.setting.Setting.{Setting}
+use Rattle.ticket.specs.declared.Answer.{Answer}
+use Rattle.ticket.specs.Rules.{first, sizesWithin, numbersWithin, fits, settingNumber, isEntry, shiftedQuotient, partA, partB, quotients, remainders, records, recordBytes, ticketLength, partOf, bytesOf, valueAt, formed, numberOf, partNumber, recordNumber, firstRefusal, after, recordsReading, reading, valueIn, entryA, entryB, quotient, remainder, claim, exactSum}
+use Rattle.challenge.specs.Rules.{listNumber, listReading, productB, claimSide, operandSide, balanced, firstRow, firstVector, verdict, challengeCheck}
+use Rattle.challenge.specs.Laws.Answers.{answer}
+
+minus : ℕ → ℤ
+minus n = negℤ (pos n)
+
+-- a ticket: the matrices of its four parts, row by row
+record Case : Type 0 where
+  setting : Setting
+  A : List ℤ
+  B : List ℤ
+  quotient : List ℤ
+  remainder : List ℤ
+
+-- the records of a part from record i on
+partBytes : ℕ → ℕ → ℕ → List ℤ → List ℕ
+partBytes kind columns i [] = []
+partBytes kind columns i (z ∷ rest) =
+    let value = leastResidue modulus z in
+    kind ∷ 0 ∷ i / columns ∷ i % columns ∷ value % 256 ∷ value / 256 % 256 ∷ value / 65_536 % 256 ∷ value / 16_777_216
+    ∷ partBytes kind columns (i + 1) rest
+
+ticket : Case → List ℕ
+ticket c =
+    partBytes 1 (c .setting .inner) 0 (c .A)
+    ++ partBytes 2 (c .setting .columns) 0 (c .B)
+    ++ partBytes 3 (c .setting .columns) 0 (c .quotient)
+    ++ partBytes 4 (c .setting .columns) 0 (c .remainder)
+
+-- the setting K, but for the inner size, the scale, the bound and the width
+setting : ℕ → ℕ → ℕ → ℕ → Setting
+setting m α T v = record { rows = 2; inner = m; columns = 2; vectors = 1; scale = α; bound = T; width = v }
+
+-- A and B with these quotients and remainders, under K with the bound T
+claiming : ℕ → List ℤ → List ℤ → Case
+claiming T q r =
+    record {
+      setting = setting 2 10 T 5;
+      A = pos 3 ∷ minus 2 ∷ pos 5 ∷ pos 4 ∷ [];
+      B = minus 1 ∷ pos 6 ∷ pos 7 ∷ minus 8 ∷ [];
+      quotient = q;
+      remainder = r;
+    }
+
+trueRemainders : List ℤ
+trueRemainders = pos 3 ∷ pos 4 ∷ pos 3 ∷ pos 8 ∷ []
+
+-- with these first two quotients, the others true
+changed : ℤ → ℤ → Case
+changed q q' = claiming 8 (q ∷ q' ∷ pos 2 ∷ minus 1 ∷ []) trueRemainders
+
+trueCase : Case
+trueCase = changed (minus 2) (pos 3)
+
+-- each with what is expected last: the sums S; what the claims put for them; quotients and remainders, as read; the bytes of a
+-- record; u, for a vector, as signed entries; the two sides, for a vector; the answer of the reading and range checks; the answer
+-- of the challenge check; the number of a setting
+data Example : Type 0 where
+  sums : Case → List ℤ → Example
+  claims : Case → List ℤ → Example
+  read : Case → List ℤ → List ℤ → Example
+  bytes : Case → ℕ → List ℕ → Example
+  product : Case → List ℕ → List ℤ → Example
+  sides : Case → List ℕ → List ℕ → List ℕ → Example
+  reads : Case → Answer → Example
+  checks : Case → List ℕ → Answer → Example
+  limits : Setting → ℕ → Example
+
+examples : List Example
+examples =
+    -- a
+    sums trueCase (minus 17 ∷ pos 34 ∷ pos 23 ∷ minus 2 ∷ [])
+    -- b
+    ∷ claims trueCase (minus 17 ∷ pos 34 ∷ pos 23 ∷ minus 2 ∷ [])
+    ∷ read trueCase (minus 2 ∷ pos 3 ∷ pos 2 ∷ minus 1 ∷ []) (pos 3 ∷ pos 4 ∷ pos 3 ∷ pos 8 ∷ [])
+    ∷ bytes trueCase 8 (0x03 ∷ 0x00 ∷ 0x00 ∷ 0x00 ∷ 0xFD ∷ 0xFF ∷ 0xFF ∷ 0x7F ∷ [])
+    -- c
+    ∷ product trueCase (1 ∷ 2 ∷ []) (pos 11 ∷ minus 9 ∷ [])
+    ∷ sides trueCase (1 ∷ 2 ∷ []) (51 ∷ 19 ∷ []) (51 ∷ 19 ∷ [])
+    ∷ checks trueCase (1 ∷ 2 ∷ []) (answer 0 0 0 12)
+    -- d
+    ∷ checks (changed (minus 1) (pos 3)) (0 ∷ 5 ∷ []) (answer 0 0 0 12)
+    -- e
+    ∷ checks (changed (minus 1) (pos 3)) (1 ∷ 5 ∷ []) (answer 12 0 0 8)
+    -- f
+    ∷ checks (changed (minus 1) (pos 4)) (1 ∷ (modulus - 1) ∷ []) (answer 0 0 0 12)
+    ∷ checks (changed (minus 1) (pos 4)) (1 ∷ 1 ∷ []) (answer 12 0 0 8)
+    -- h
+    ∷ checks (claiming 8 (minus 3 ∷ pos 3 ∷ pos 2 ∷ minus 1 ∷ []) (pos 13 ∷ pos 4 ∷ pos 3 ∷ pos 8 ∷ [])) (1 ∷ 2 ∷ []) (answer 9 12 0 0)
+    -- i: the true case has the entry -8
+    ∷ checks (claiming 9 (minus 2 ∷ pos 3 ∷ pos 2 ∷ minus 1 ∷ []) trueRemainders) (1 ∷ 2 ∷ []) (answer 3 0 0 0)
+    ∷ reads trueCase (answer 0 0 0 0)
+    -- j
+    ∷ reads (changed (minus 16) (pos 15)) (answer 0 0 0 0)
+    ∷ reads (changed (minus 17) (pos 15)) (answer 8 8 0 0)
+    -- k
+    ∷ limits (setting 1 65_536 1 14) 0
+    ∷ limits (setting 1 65_536 1 15) 3
+    ∷ []
+
+-- of each claim, row by row
+each : (ℕ → ℕ → ℤ) → List ℤ
+each f = f 0 0 ∷ f 0 1 ∷ f 1 0 ∷ f 1 1 ∷ []
+
+by-rules : Example → Example
+by-rules (sums c _) = sums c (each (exactSum (c .setting) (ticket c)))
+by-rules (claims c _) = claims c (each (claim (c .setting) (ticket c)))
+by-rules (read c _ _) = read c (each (quotient (c .setting) (ticket c))) (each (remainder (c .setting) (ticket c)))
+by-rules (bytes c k _) = bytes c k (take recordBytes (drop (recordBytes * k) (ticket c)))
+by-rules (product c x _) = product c x (map (λ k. signedEntry modulus (productB (c .setting) (ticket c) x 0 k)) (0 ∷ 1 ∷ []))
+by-rules (sides c x _ _) =
+    sides c x (map (claimSide (c .setting) (ticket c) x 0) (0 ∷ 1 ∷ [])) (map (operandSide (c .setting) (ticket c) x 0) (0 ∷ 1 ∷ []))
+by-rules (reads c _) = reads c (reading (c .setting) (ticket c))
+by-rules (checks c x _) = checks c x (challengeCheck (c .setting) (ticket c) x)
+by-rules (limits G _) = limits G (settingNumber G)
+
+examples-hold : map by-rules examples ≡ examples
+unfolding modulus leastResidue signedEntry sumℤ first sizesWithin numbersWithin fits settingNumber isEntry shiftedQuotient partA
+    partB quotients remainders records ticketLength partOf bytesOf valueAt formed numberOf partNumber recordNumber
+    firstRefusal after recordsReading reading valueIn entryA entryB quotient remainder claim exactSum listNumber listReading
+    productB claimSide operandSide balanced firstRow firstVector verdict challengeCheck minus partBytes ticket setting
+    claiming trueRemainders trueCase changed examples each by-rules
+examples-hold = refl
