@@ -5,12 +5,8 @@
 --   Rows       one row of the check
 --   Vectors    all rows of one vector, and all vectors
 --   Checks     the whole check (C1)
---   Answers    every answer is a row of the published table (C2)
---   Demands    which lists are accepted, and how many (C3 to C6)
 pub mod Lists
 pub mod Products
 pub mod Rows
 pub mod Vectors
 pub mod Checks
-pub mod Answers
-pub mod Demands

@@ -1,4 +1,3 @@
--- The rules of the challenge check, which a reader has to believe, the laws, which are proved from them, and the marked examples.
+-- The rules of the challenge check, which a reader has to believe, and the laws that the proofs of its functions cite.
 pub mod Rules
 pub mod Laws
-mod Examples

@@ -4,14 +4,15 @@ ghost use mathlib.Core.Path.{_≡_};
 ghost use lib.ListN.{length};
 ghost use Rattle.challenge.specs.Laws.Products.{dotOf, Inside, Product, Sized};
 use residue::ProductSum;
+use ticket::Setting;
 use ticket::RECORD;
 use ticket::word;
 
-// The most rows that a matrix has here: inner, the rows of B.
-const ROWS: usize = 64;
+// The most rows that a matrix has here: B has as many as A has columns.
+const ROWS: usize = Setting::MOST_INNER as usize;
 
 // The first rows of the product of a matrix and a vector, which is as long as each of its rows.
-pub(crate) fn product(matrix: &[u8], rows: usize, vector: &[u32]) -> [u32; 64]
+pub(crate) fn product(matrix: &[u8], rows: usize, vector: &[u32]) -> [u32; ROWS]
     requires { ⌜ Sized (now matrix) rows (length (now vector)) ⌝ }
     ensures { λ r. ⌜ Product (now (matrix .entry)) rows (now (vector .entry)) r ⌝ }
 {

@@ -4,6 +4,7 @@
 --   first n f            the first place below n at which the test f fails, n where there is none
 --   unless c a b         b where c holds, else a
 --   refusal c k          the answer of number c at place k
+--   mostRows, mostInner, mostColumns, mostVectors   the largest sizes
 --   sizesWithin G, numbersWithin G, fits G   the limits and the fit: tests 1, 2 and 3
 --   settingNumber G      the first of them that fails, 0 where none does
 --   Part                 a part of the ticket: the records of one matrix
@@ -30,7 +31,7 @@
 --   FalseIn G t j        the ticket is false in column j
 use Prim.Native.Nat.{ℕ, zero, suc, _+_, _-_, _*_, _/_, _%_, _^_, _<_}
 use mathlib.Core.Path.{_≡_}
-use mathlib.Core.Bool.{Bool, true, false, cond, _&&_}
+use mathlib.Core.Bool.{Bool, cond, _&&_}
 use mathlib.Core.List.{List}
 use lib.Dec.{leb, ltb, eqb}
 use lib.ListN.{length, getD, drop}
@@ -55,8 +56,24 @@ refusal number place = record { number = number; place = place; row = 0; product
 abbrev pub within : ℕ → ℕ → ℕ → Bool
 within low high n = leb low n && leb n high
 
+abbrev pub mostRows : ℕ
+mostRows = 32
+
+abbrev pub mostInner : ℕ
+mostInner = 64
+
+abbrev pub mostColumns : ℕ
+mostColumns = 32
+
+abbrev pub mostVectors : ℕ
+mostVectors = 8
+
 unfoldable pub sizesWithin : Setting → Bool
-sizesWithin G = within 1 32 (G .rows) && within 1 64 (G .inner) && within 1 32 (G .columns) && within 1 8 (G .vectors)
+sizesWithin G =
+    within 1 mostRows (G .rows)
+    && within 1 mostInner (G .inner)
+    && within 1 mostColumns (G .columns)
+    && within 1 mostVectors (G .vectors)
 
 unfoldable pub numbersWithin : Setting → Bool
 numbersWithin G = within 2 65_536 (G .scale) && within 1 32_767 (G .bound) && within 1 30 (G .width)

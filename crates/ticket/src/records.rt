@@ -1,6 +1,6 @@
 // Records and parts of a ticket: tests 5 to 9.
 ghost use mathlib.Core.Path.{_≡_};
-ghost use Prim.Native.Nat.{_+_, _*_, _≤_, _<_, _^_};
+ghost use Prim.Native.Nat.{_+_, _*_, _≤_, _<_};
 ghost use lib.ListN.{length};
 ghost use Rattle.ticket.specs.Rules.{after, firstRefusal, reading, recordsReading, recordBytes};
 ghost use Rattle.ticket.specs.Laws.Limits.{Counts, Numbers};

@@ -21,6 +21,12 @@ pub struct Setting {
 }
 
 impl Setting {
+    // the largest sizes
+    pub const MOST_ROWS: u32 = 32;
+    pub const MOST_INNER: u32 = 64;
+    pub const MOST_COLUMNS: u32 = 32;
+    pub const MOST_VECTORS: u32 = 8;
+
     // The first of the tests 1, 2 and 3 that the setting fails, 0 where it passes them.
     pub fn number(self) -> u32
         ensures { λ r. ⌜ r ≡ settingNumber self ⌝ }
@@ -40,10 +46,10 @@ impl Setting {
     fn sizes_within(self) -> bool
         ensures { λ r. ⌜ r ≡ sizesWithin self ⌝ }
     {
-        within(1, 32, self.rows)
-            & within(1, 64, self.inner)
-            & within(1, 32, self.columns)
-            & within(1, 8, self.vectors)
+        within(1, Setting::MOST_ROWS, self.rows)
+            & within(1, Setting::MOST_INNER, self.inner)
+            & within(1, Setting::MOST_COLUMNS, self.columns)
+            & within(1, Setting::MOST_VECTORS, self.vectors)
     }
 
     fn numbers_within(self) -> bool

@@ -1,12 +1,25 @@
-//! Residue arithmetic modulo p, following the section "Residues" of the scope
-//! paper sentence by sentence.
+//! The rules of the scope paper, followed sentence by sentence: residue
+//! arithmetic modulo p here at the root, the setting, the reading of a ticket
+//! and the challenge check in a module each, and the making of tickets, true
+//! and false, for those who test a checker.
 //!
-//! Everything is exact integer arithmetic in `i128`, and every answer goes
-//! through one definition of the least residue. Every function takes every
-//! input. The largest number met is a product of two least residues, far below
+//! Everything is exact integer arithmetic in `i128`. Every residue goes through
+//! one definition of the least residue. Every function takes every input,
+//! except that a ticket is made only from matrices of the setting's sizes. The
+//! largest number met is a sum of products of two numbers below p, far below
 //! the limit of `i128`.
 
 #![forbid(unsafe_code)]
+
+mod check;
+pub mod make;
+mod matrix;
+mod setting;
+mod ticket;
+
+pub use check::{challenge_check, Answer};
+pub use make::true_ticket;
+pub use setting::Setting;
 
 /// The modulus of the scope paper: "p = 2,147,483,647."
 pub const P: i128 = 2_147_483_647;

@@ -1,7 +1,9 @@
-//! The inputs: corner values in all pairs, and pseudo-random numbers that are
-//! the same in every run.
+//! The inputs of the residue calls: corner values in all pairs, and
+//! pseudo-random numbers that are the same in every run.
 
 use apart::P;
+
+use crate::generator::Generator;
 
 /// The corner values as machine words: those of the unsigned numbers, those of
 /// the signed ones by their bits, and the exponents around 30.
@@ -71,11 +73,11 @@ pub fn pairs() -> impl Iterator<Item = (u32, u32)> {
 /// anywhere.
 pub fn random(seed: u64, count: usize) -> impl Iterator<Item = (u32, u32)> {
     let corners = corners();
-    let mut generator = SplitMix64(seed);
+    let mut generator = Generator::new(seed);
     let mut word = move || {
         let bits = generator.next();
         let anywhere = (bits >> 32) as u32;
-        if bits % 4 == 0 {
+        if bits.is_multiple_of(4) {
             let corner = corners[(bits >> 8) as usize % corners.len()];
             corner.wrapping_add(anywhere % 17).wrapping_sub(8)
         } else {
@@ -83,17 +85,4 @@ pub fn random(seed: u64, count: usize) -> impl Iterator<Item = (u32, u32)> {
         }
     };
     std::iter::repeat_with(move || (word(), word())).take(count)
-}
-
-/// The generator SplitMix64 (Steele, Lea, Flood: Fast Splittable Pseudorandom
-/// Number Generators).
-struct SplitMix64(u64);
-
-impl SplitMix64 {
-    fn next(&mut self) -> u64 {
-        self.0 = self.0.wrapping_add(0x9e37_79b9_7f4a_7c15);
-        let z = (self.0 ^ (self.0 >> 30)).wrapping_mul(0xbf58_476d_1ce4_e5b9);
-        let z = (z ^ (z >> 27)).wrapping_mul(0x94d0_49bb_1331_11eb);
-        z ^ (z >> 31)
-    }
 }

@@ -1,95 +1,89 @@
 //! Compares every call of the proved library with the implementation written
-//! apart from it: on all pairs of corner values, and on random inputs. The last
-//! line says how many calls agreed everywhere, and how many did not.
+//! apart from it: the residue calls on all pairs of corner values and on random
+//! inputs, the challenge check on families of cases. Each call and each family
+//! is one test, and it is one more that the check gave each of its numbers at
+//! some case. The last line says how many passed, and how many did not.
 
 #![forbid(unsafe_code)]
 
+mod cases;
+mod families;
+mod generator;
 mod inputs;
+mod outcome;
+mod residues;
 
 use std::process::ExitCode;
 
-/// What both sides answer to one input. A call of one argument passes over the
-/// second number.
-struct Answers {
-    library: i64,
-    apart: i64,
-}
-
-struct Call {
-    name: &'static str,
-    answers: fn(u32, u32) -> Answers,
-}
-
-/// A call of the same name on both sides, its arguments made from x and y.
-macro_rules! call {
-    ($name:ident, |$x:ident, $y:ident| $($argument:expr),+) => {
-        Call {
-            name: stringify!($name),
-            answers: |$x, $y| Answers {
-                library: i64::from(dikdumar::residue::$name($($argument),+)),
-                apart: i64::from(apart::$name($($argument),+)),
-            },
-        }
-    };
-}
-
-const CALLS: [Call; 7] = [
-    call!(reduce, |x, _y| x),
-    call!(add, |x, y| x, y),
-    call!(subtract, |x, y| x, y),
-    call!(multiply, |x, y| x, y),
-    call!(from_signed, |x, _y| x as i32),
-    call!(to_signed, |x, _y| x),
-    call!(power_of_two, |x, _y| x),
-];
-
-const RANDOM: usize = 1_000_000;
-
-/// How many inputs were compared, and the first at which the sides differ.
-struct Outcome {
-    compared: u64,
-    differs: Option<(u32, u32)>,
-}
-
-fn compare(call: &Call, inputs: impl Iterator<Item = (u32, u32)>) -> Outcome {
-    let mut outcome = Outcome {
-        compared: 0,
-        differs: None,
-    };
-    for (x, y) in inputs {
-        let answers = (call.answers)(x, y);
-        outcome.compared += 1;
-        if answers.library != answers.apart && outcome.differs.is_none() {
-            outcome.differs = Some((x, y));
-        }
-    }
-    outcome
-}
+use cases::Numbers;
+use outcome::Test;
 
 fn main() -> ExitCode {
-    let mut compared = 0;
-    let mut failed = 0;
-    for (seed, call) in (1..).zip(&CALLS) {
-        let outcome = compare(call, inputs::pairs().chain(inputs::random(seed, RANDOM)));
-        compared += outcome.compared;
-        match outcome.differs {
-            None => println!("{}: {} inputs, no difference", call.name, outcome.compared),
-            Some((x, y)) => {
-                failed += 1;
-                let Answers { library, apart } = (call.answers)(x, y);
-                println!(
-                    "{}: at {x}, {y} the library says {library}, the implementation written apart {apart}",
-                    call.name
-                );
-            }
-        }
+    let mut run = Run::default();
+    for (seed, call) in (1..).zip(&residues::CALLS) {
+        run.take(residues::test(call, seed));
     }
-    println!("{compared} answers compared");
-    println!("{} passed, {failed} failed", CALLS.len() - failed);
-    if failed == 0 {
+    let mut numbers: Numbers = [0; 13];
+    for family in &families::ALL {
+        let outcome = cases::compare(family, cases::library, cases::apart);
+        for (total, count) in numbers.iter_mut().zip(outcome.numbers) {
+            *total += count;
+        }
+        run.take(outcome.test(family));
+    }
+    println!("{} answers compared", run.compared);
+    run.take(every_number(&numbers));
+    println!("{} passed, {} failed", run.passed, run.failed);
+    if run.failed == 0 {
         ExitCode::SUCCESS
     } else {
         ExitCode::FAILURE
+    }
+}
+
+/// The tests made so far.
+#[derive(Default)]
+struct Run {
+    compared: u64,
+    passed: u64,
+    failed: u64,
+}
+
+impl Run {
+    fn take(&mut self, test: Test) {
+        self.compared += test.compared;
+        match test.report {
+            Ok(line) => {
+                self.passed += 1;
+                println!("{line}");
+            }
+            Err(line) => {
+                self.failed += 1;
+                println!("{line}");
+            }
+        }
+    }
+}
+
+/// A number that no case is answered with has not been compared.
+fn every_number(numbers: &Numbers) -> Test {
+    let counts: Vec<String> = (0..)
+        .zip(numbers)
+        .map(|(n, count)| format!("  {n:2}: {count}"))
+        .collect();
+    let missing: Vec<String> = (0..)
+        .zip(numbers)
+        .filter(|(_, &count)| count == 0)
+        .map(|(number, _): (u32, _)| number.to_string())
+        .collect();
+    let lines = format!("answers of each number:\n{}", counts.join("\n"));
+    Test {
+        compared: 0,
+        report: if missing.is_empty() {
+            Ok(lines)
+        } else {
+            Err(format!("{lines}\nnever answered: {}", missing.join(", ")))
+        },
     }
 }
 
@@ -97,24 +91,23 @@ fn main() -> ExitCode {
 mod tests {
     use super::*;
 
-    /// A comparison that could not fail would be no test.
     #[test]
-    fn a_wrong_answer_is_noticed() {
-        let one_off = Call {
-            name: "add",
-            answers: |x, y| Answers {
-                library: i64::from(x) + i64::from(y),
-                apart: i64::from(apart::add(x, y)),
-            },
-        };
-        let outcome = compare(&one_off, [(1, 2), (u32::MAX, 0), (3, 4)].into_iter());
-        assert_eq!(outcome.compared, 3);
-        assert_eq!(outcome.differs, Some((u32::MAX, 0)));
+    fn a_number_that_never_occurs_is_noticed() {
+        assert!(every_number(&[1; 13]).report.is_ok());
+        for missing in 0..13 {
+            let mut numbers = [1; 13];
+            numbers[missing] = 0;
+            let report = every_number(&numbers).report.expect_err("a number is missing");
+            assert!(report.ends_with(&format!("never answered: {missing}")));
+        }
     }
 
     #[test]
-    fn every_call_is_compared_on_a_million_inputs() {
-        assert!(RANDOM >= 1_000_000);
-        assert_eq!(inputs::random(1, RANDOM).count(), RANDOM);
+    fn what_fails_is_counted() {
+        let mut run = Run::default();
+        for report in [Ok(String::new()), Err(String::new()), Ok(String::new())] {
+            run.take(Test { compared: 5, report });
+        }
+        assert_eq!((run.compared, run.passed, run.failed), (15, 2, 1));
     }
 }

@@ -4,7 +4,7 @@
 //! number that is equal to it modulo p, and handed out as the least one, from 0
 //! to p - 1.
 
-/// The calls of include/dikdumar_residue.h, declared once.
+/// The residue calls of include/dikdumar.h, declared once.
 mod library {
     extern "C" {
         pub fn dikdumar_reduce(x: u32) -> u32;
@@ -66,7 +66,7 @@ mod tests {
     fn conversions_undo_each_other() {
         let p = from_signed(-1) + 1;
         let largest = ((p - 1) / 2) as i32;
-        for residue in [0, 1, 2, (p - 1) / 2, (p + 1) / 2, p - 2, p - 1] {
+        for residue in [0, 1, 2, (p - 1) / 2, (p - 1) / 2 + 1, p - 2, p - 1] {
             assert_eq!(from_signed(to_signed(residue)), residue);
         }
         for entry in [-largest, -largest + 1, -1, 0, 1, largest - 1, largest] {

@@ -16,7 +16,7 @@ use mathlib.Core.List.{List}
 use lib.ListN.{length, getD, set, length-set}
 use lib.Seq.{getD-set-same, getD-set-other}
 use Rattle.residue.specs.Rules.{modulus, sum}
-use Rattle.ticket.specs.Rules.{recordBytes, valueAt}
+use Rattle.ticket.specs.Rules.{mostInner, recordBytes, valueAt}
 
 abbrev pub terms : List ℕ → ℕ → List ℕ → ℕ → ℕ
 terms bytes start x j = valueAt bytes (start + j) * getD x j 0
@@ -29,18 +29,18 @@ pub record Inside (bytes : List ℕ) (start count : ℕ) : Type 0 where
   pub long : recordBytes * (start + count) ≤ length bytes
 
 pub record Sized (bytes : List ℕ) (rows columns : ℕ) : Type 0 where
-  pub few : rows ≤ 64
+  pub few : rows ≤ mostInner
   pub narrow : columns < 2 ^ 32
   pub long : recordBytes * (rows * columns) ≤ length bytes
 
 pub record Product (bytes : List ℕ) (rows : ℕ) (x u : List ℕ) : Type 0 where
-  pub size : length u ≡ 64
+  pub size : length u ≡ mostInner
   pub each : (k : ℕ) → k < rows → getD u k 0 ≡ dotOf bytes (k * length x) x
 
 pub row-inside : {rows k : ℕ} (n : ℕ) → k < rows → k * n + n ≤ rows * n
 row-inside {rows} {k} n l = omega (arith, mul-le-mul-right n l)
 
-pub product-more : {bytes : List ℕ} {k value : ℕ} {x u : List ℕ} → k < 64 → Product bytes k x u
+pub product-more : {bytes : List ℕ} {k value : ℕ} {x u : List ℕ} → k < mostInner → Product bytes k x u
     → value ≡ dotOf bytes (k * length x) x → Product bytes (k + 1) x (set u k value)
 product-more {bytes} {k} {value} {x} {u} l p e =
     record {

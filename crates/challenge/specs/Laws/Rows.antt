@@ -10,10 +10,9 @@
 use Prim.Native.Nat.{ℕ, _+_, _*_, _%_, _≤_, _<_, _^_}
 use native.Mathlib.Nat.{mod-add-mod, add-mod-mod, mod-eq-of-lt}
 use native.Mathlib.Omega.{arith}
-use mathlib.Core.Path.{_≡_, refl, sym, ap, _∙_}
+use mathlib.Core.Path.{_≡_, sym, ap, _∙_}
 use mathlib.Core.List.{List}
 use borrow.Author.Tests.{eq-eqb, ne-eqb}
-use lib.Dec.{eqb}
 use lib.IntN.{pos, _+ℤ_, _*ℤ_}
 use lib.ListN.{length, getD}
 use Rattle.residue.specs.Rules.{modulus, leastResidue, sum}
@@ -24,7 +23,7 @@ use Rattle.residue.specs.Laws.Sums.{sum-cong, sum-mod-cong, sum-add, sum-scale}
 use Rattle.algebra.specs.Laws.IntegerSums.{residue-dot}
 use Rattle.ticket.specs.declared.setting.Setting.{Setting}
 use Rattle.ticket.specs.declared.Answer.{Answer}
-use Rattle.ticket.specs.Rules.{Part, partA, partB, quotients, remainders, recordBytes, bytesOf, valueAt, valueIn, entryA, entryB, quotient, remainder, claim, unless}
+use Rattle.ticket.specs.Rules.{Part, partA, partB, quotients, remainders, recordBytes, valueAt, valueIn, entryA, entryB, quotient, remainder, claim, unless}
 use Rattle.ticket.specs.Laws.Differences.{residue-entryA, residue-entryB, residue-quotient, residue-remainder}
 use Rattle.ticket.specs.Laws.Layout.{value-of-part}
 use Rattle.ticket.specs.Laws.Passes.{Passed}

@@ -33,7 +33,7 @@ use Rattle.residue.specs.Rules.{modulus, leastResidue, sum}
 use Rattle.algebra.specs.Laws.IntegerSums.{sumℤ-cong}
 use Rattle.ticket.specs.declared.setting.Setting.{Setting}
 use Rattle.ticket.specs.declared.Answer.{Answer}
-use Rattle.ticket.specs.Rules.{recordBytes, valueAt, valueIn, partB, bytesOf, unless, first}
+use Rattle.ticket.specs.Rules.{mostRows, mostInner, mostColumns, mostVectors, recordBytes, valueAt, valueIn, partB, bytesOf, unless, first}
 use Rattle.ticket.specs.Laws.Forms.{from, rest, from-long}
 use Rattle.ticket.specs.Laws.First.{true-or-false, first-none, first-is, first-cong}
 use Rattle.ticket.specs.Laws.Passes.{Passed}
@@ -236,7 +236,7 @@ vector-same G x τ j l =
 pub vector-ready : {G : Setting} {t x : List ℕ} {τ : ℕ} {a : Answer} → ListReady G t x → VectorsPassed G t x τ a → τ < G .vectors
     → VectorReady G t (vectorOf G x τ) (a .products)
 vector-ready {G} {t} {x} {τ} {a} ready passed l =
-    let vectors : τ * vectorProducts G ≤ 8 * (64 * 32 + 32 * 32 + 32 * 64) = mul-le-mul τ-few products-few in
+    let vectors : τ * vectorProducts G ≤ mostVectors * (mostInner * mostColumns + mostRows * mostColumns + mostRows * mostInner) = mul-le-mul τ-few products-few in
     let inside : τ * G .columns + G .columns ≤ length x = omega (arith, ready .size, row-inside (G .columns) l) in
     record {
       passed = ready .passed;
@@ -248,10 +248,10 @@ vector-ready {G} {t} {x} {τ} {a} ready passed l =
       few = omega (arith, ap (λ b. b .products) (passed .answer));
     }
   where
-    τ-few : τ ≤ 8
+    τ-few : τ ≤ mostVectors
     τ-few = omega (arith, ready .passed .counts .sizes)
 
-    products-few : vectorProducts G ≤ 64 * 32 + 32 * 32 + 32 * 64
+    products-few : vectorProducts G ≤ mostInner * mostColumns + mostRows * mostColumns + mostRows * mostInner
     products-few = omega (arith, ready .passed .counts)
 
 pub vectors-none : (G : Setting) (t x : List ℕ) → VectorsPassed G t x 0 (made 0)

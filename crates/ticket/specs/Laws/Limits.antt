@@ -16,7 +16,7 @@ use Prim.Native.Nat.{ℕ, suc, _+_, _-_, _*_, _^_, _≤_, _<_}
 use native.Mathlib.Nat.{mul-le-mul, pow-suc}
 use native.Mathlib.Omega.{arith}
 use mathlib.Core.Path.{_≡_, refl, ap, _∙_}
-use mathlib.Core.Bool.{Bool, true, false, cond, _&&_, and-eq-true-iff}
+use mathlib.Core.Bool.{Bool, true, false, _&&_, and-eq-true-iff}
 use borrow.Author.Tests.{leb-true, ltb-true}
 use lib.Dec.{leb, ltb}
 use lib.Pow.{pow-mono}
@@ -24,7 +24,7 @@ use Rattle.residue.specs.Rules.{modulus, powerOfTwo}
 use Rattle.residue.specs.Laws.Powers.{power-within}
 use Rattle.residue.specs.Laws.Modulus.{modulus-is}
 use Rattle.ticket.specs.declared.setting.Setting.{Setting}
-use Rattle.ticket.specs.Rules.{within, unless, sizesWithin, numbersWithin, fits, settingNumber}
+use Rattle.ticket.specs.Rules.{within, mostRows, mostInner, mostColumns, mostVectors, unless, sizesWithin, numbersWithin, fits, settingNumber}
 
 pub both : (a b : Bool) → (a && b) ≡ true → (a ≡ true) × (b ≡ true)
 both a b e = and-eq-true-iff a b .0 e
@@ -35,10 +35,10 @@ within-both low high n e =
     (leb-true low n (h .0), leb-true n high (h .1))
 
 pub record Sizes (G : Setting) : Type 0 where
-  pub rows : (1 ≤ G .rows) × (G .rows ≤ 32)
-  pub inner : (1 ≤ G .inner) × (G .inner ≤ 64)
-  pub columns : (1 ≤ G .columns) × (G .columns ≤ 32)
-  pub vectors : (1 ≤ G .vectors) × (G .vectors ≤ 8)
+  pub rows : (1 ≤ G .rows) × (G .rows ≤ mostRows)
+  pub inner : (1 ≤ G .inner) × (G .inner ≤ mostInner)
+  pub columns : (1 ≤ G .columns) × (G .columns ≤ mostColumns)
+  pub vectors : (1 ≤ G .vectors) × (G .vectors ≤ mostVectors)
 
 pub record Numbers (G : Setting) : Type 0 where
   pub scale : (2 ≤ G .scale) × (G .scale ≤ 65_536)
@@ -59,16 +59,16 @@ pub record Half (G : Setting) (half : ℕ) : Type 0 where
 pub record FitProducts (G : Setting) (half : ℕ) : Type 0 where
   pub half-is : Half G half
   pub square : G .bound * G .bound ≤ 32_767 * 32_767
-  pub sums : G .inner * (G .bound * G .bound) ≤ 64 * (32_767 * 32_767)
+  pub sums : G .inner * (G .bound * G .bound) ≤ mostInner * (32_767 * 32_767)
   pub shifted : half * G .scale ≤ 2 ^ 29 * 65_536
 
 -- the records of A, of B and of the claims, and the numbers of a challenge list: none are many
 pub record Counts (G : Setting) : Type 0 where
   pub sizes : Sizes G
-  pub entries-A : G .rows * G .inner ≤ 32 * 64
-  pub entries-B : G .inner * G .columns ≤ 64 * 32
-  pub claims : G .rows * G .columns ≤ 32 * 32
-  pub challenges : G .vectors * G .columns ≤ 8 * 32
+  pub entries-A : G .rows * G .inner ≤ mostRows * mostInner
+  pub entries-B : G .inner * G .columns ≤ mostInner * mostColumns
+  pub claims : G .rows * G .columns ≤ mostRows * mostColumns
+  pub challenges : G .vectors * G .columns ≤ mostVectors * mostColumns
 
 pub counts : {G : Setting} → Sizes G → Counts G
 counts {G} sizes =
@@ -83,14 +83,14 @@ counts {G} sizes =
 pub sizes-of : (G : Setting) → sizesWithin G ≡ true → Sizes G
 unfolding sizesWithin
 sizes-of G e =
-    let h = both (within 1 32 (G .rows) && within 1 64 (G .inner) && within 1 32 (G .columns)) (within 1 8 (G .vectors)) e in
-    let k = both (within 1 32 (G .rows) && within 1 64 (G .inner)) (within 1 32 (G .columns)) (h .0) in
-    let l = both (within 1 32 (G .rows)) (within 1 64 (G .inner)) (k .0) in
+    let h = both (within 1 mostRows (G .rows) && within 1 mostInner (G .inner) && within 1 mostColumns (G .columns)) (within 1 mostVectors (G .vectors)) e in
+    let k = both (within 1 mostRows (G .rows) && within 1 mostInner (G .inner)) (within 1 mostColumns (G .columns)) (h .0) in
+    let l = both (within 1 mostRows (G .rows)) (within 1 mostInner (G .inner)) (k .0) in
     record {
-      rows = within-both 1 32 (G .rows) (l .0);
-      inner = within-both 1 64 (G .inner) (l .1);
-      columns = within-both 1 32 (G .columns) (k .1);
-      vectors = within-both 1 8 (G .vectors) (h .1);
+      rows = within-both 1 mostRows (G .rows) (l .0);
+      inner = within-both 1 mostInner (G .inner) (l .1);
+      columns = within-both 1 mostColumns (G .columns) (k .1);
+      vectors = within-both 1 mostVectors (G .vectors) (h .1);
     }
 
 pub numbers-of : (G : Setting) → numbersWithin G ≡ true → Numbers G

@@ -6,15 +6,14 @@
 --   after-passed, after-refused   an answer after an earlier one that passes, and after one that refuses
 --   refusal-cong    equal numbers give equal answers
 --   refusal-split   a scan of m + n numbers is a scan of m, then one of the n after them
-use Rattle.ticket.specs.Rules.{first, firstRefusal, after, refusal, unless}
+use Rattle.ticket.specs.Rules.{firstRefusal, after, refusal}
 use Rattle.ticket.specs.Laws.First.{first-none, first-is}
 use Rattle.ticket.specs.declared.Answer.{Answer}
-use Prim.Native.Nat.{ℕ, zero, suc, _+_, _-_, _≤_, _<_}
+use Prim.Native.Nat.{ℕ, zero, suc, _+_, _-_, _<_}
 use native.Mathlib.Omega.{arith}
 use native.Mathlib.Decide.{ℕ-discrete, decLe}
 use mathlib.Core.Logic.{_⊎_, inl, inr, ⊎-elim}
 use mathlib.Core.Path.{_≡_, refl, sym, ap, _∙_}
-use mathlib.Core.Bool.{Bool, true, false, cond}
 use borrow.Author.Tests.{eq-eqb, ne-eqb}
 
 pub refusal-none : (start n : ℕ) (f : ℕ → ℕ) → ((k : ℕ) → k < n → f k ≡ 0) → firstRefusal start n f ≡ refusal 0 0

@@ -9,8 +9,8 @@ use Rattle.algebra.specs.Rules.{sumℤ}
 use Rattle.ticket.specs.declared.setting.Setting.{Setting}
 use Rattle.ticket.specs.declared.Answer.{Answer}
 use Rattle.ticket.specs.Rules.{first, sizesWithin, numbersWithin, fits, settingNumber, isEntry, shiftedQuotient, partA, partB, quotients, remainders, records, recordBytes, ticketLength, partOf, bytesOf, valueAt, formed, numberOf, partNumber, recordNumber, firstRefusal, after, recordsReading, reading, valueIn, entryA, entryB, quotient, remainder, claim, exactSum}
 use Rattle.challenge.specs.Rules.{listNumber, listReading, productB, claimSide, operandSide, balanced, firstRow, firstVector, verdict, challengeCheck}
-use Rattle.challenge.specs.Laws.Answers.{answer}
+use Rattle.soundness.specs.Laws.Answers.{answer}
 
 minus : ℕ → ℤ
 minus n = negℤ (pos n)

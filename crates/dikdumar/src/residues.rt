@@ -1,0 +1,1 @@
+../../dikdumar_residue/src/lib.rt

@@ -1,0 +1,182 @@
+//! "The ticket" and its reading. The bytes are first taken apart into records,
+//! all of them; the records then become integers, or a refusal; the integers
+//! become matrices.
+
+use crate::matrix::Matrix;
+use crate::{least_residue, to_signed, Setting, P};
+
+/// The bytes of a record.
+pub(crate) const RECORD: usize = 8;
+
+/// The four parts of a ticket, in their order.
+#[derive(Clone, Copy, Debug, PartialEq, Eq)]
+pub(crate) enum Part {
+    A,
+    B,
+    Quotients,
+    Remainders,
+}
+
+impl Part {
+    pub(crate) const ALL: [Part; 4] = [Part::A, Part::B, Part::Quotients, Part::Remainders];
+
+    /// "First A (kind 1, ℓ by m), then B (2, m by n), then quotients (3, ℓ by
+    /// n), then remainders (4, ℓ by n)".
+    pub(crate) fn kind(self) -> u8 {
+        match self {
+            Part::A => 1,
+            Part::B => 2,
+            Part::Quotients => 3,
+            Part::Remainders => 4,
+        }
+    }
+
+    /// Rows and columns of the part.
+    pub(crate) fn shape(self, setting: &Setting) -> (u32, u32) {
+        match self {
+            Part::A => (setting.rows, setting.inner),
+            Part::B => (setting.inner, setting.columns),
+            Part::Quotients | Part::Remainders => (setting.rows, setting.columns),
+        }
+    }
+
+    /// Every place of the part, "row by row".
+    pub(crate) fn places(self, setting: &Setting) -> impl Iterator<Item = (u32, u32)> {
+        let (rows, columns) = self.shape(setting);
+        (0..rows).flat_map(move |row| (0..columns).map(move |column| (row, column)))
+    }
+
+    /// How many records the part has. Two numbers of 32 bits make a product of
+    /// 64, so sums of a few of these are exact.
+    pub(crate) fn count(self, setting: &Setting) -> u128 {
+        let (rows, columns) = self.shape(setting);
+        u128::from(rows) * u128::from(columns)
+    }
+}
+
+/// "The length is 8(ℓm + mn + 2ℓn)", exact for any setting.
+pub(crate) fn length(setting: &Setting) -> u128 {
+    let records: u128 = Part::ALL.iter().map(|part| part.count(setting)).sum();
+    RECORD as u128 * records
+}
+
+/// "Records of 8 bytes, no header: kind (1 byte), a zero byte, row, column (1
+/// byte each, from 0), value (4 bytes)", with "all stored numbers
+/// little-endian".
+#[derive(Clone, Copy, Debug, PartialEq, Eq)]
+pub(crate) struct Record {
+    pub(crate) kind: u8,
+    pub(crate) zero: u8,
+    pub(crate) row: u8,
+    pub(crate) column: u8,
+    pub(crate) value: u32,
+}
+
+impl Record {
+    fn decode(&[kind, zero, row, column, v0, v1, v2, v3]: &[u8; RECORD]) -> Record {
+        Record {
+            kind,
+            zero,
+            row,
+            column,
+            value: u32::from_le_bytes([v0, v1, v2, v3]),
+        }
+    }
+
+    pub(crate) fn encode(&self) -> [u8; RECORD] {
+        let [v0, v1, v2, v3] = self.value.to_le_bytes();
+        [self.kind, self.zero, self.row, self.column, v0, v1, v2, v3]
+    }
+
+    /// The integer that the record holds at this place of the ticket, or the
+    /// number of the test that it does not pass: "each by 5, 6 and its own
+    /// range".
+    fn integer(&self, setting: &Setting, part: Part, (row, column): (u32, u32)) -> Result<i128, u32> {
+        let found = (self.kind, self.zero, u32::from(self.row), u32::from(self.column));
+        let value = i128::from(self.value);
+        if found != (part.kind(), 0, row, column) {
+            Err(5)
+        } else if value >= P {
+            Err(6)
+        } else {
+            match part {
+                // "An entry of A or B stands for a number from -T to T."
+                Part::A | Part::B => {
+                    let entry = i128::from(to_signed(self.value));
+                    within(entry, -i128::from(setting.bound), i128::from(setting.bound)).ok_or(7)
+                }
+                // "the shifted quotient q♯ = (q' + 2^(v-1)) mod p is below 2^v,
+                // and q = q♯ - 2^(v-1)"
+                Part::Quotients => {
+                    let half = setting.half_of_quotients();
+                    let shifted = least_residue(value + half);
+                    within(shifted, 0, 2 * half - 1).map(|shifted| shifted - half).ok_or(8)
+                }
+                // "A remainder r is below α."
+                Part::Remainders => within(value, 0, i128::from(setting.scale) - 1).ok_or(9),
+            }
+        }
+    }
+}
+
+fn within(x: i128, least: i128, greatest: i128) -> Option<i128> {
+    (least..=greatest).contains(&x).then_some(x)
+}
+
+/// What a ticket says.
+pub(crate) struct Ticket {
+    pub(crate) a: Matrix,
+    pub(crate) b: Matrix,
+    /// αq + r in every place.
+    pub(crate) claims: Matrix,
+}
+
+/// A test that is not passed, and its place.
+#[derive(Clone, Copy, Debug, PartialEq, Eq)]
+pub(crate) struct Refusal {
+    pub(crate) number: u32,
+    pub(crate) place: usize,
+}
+
+/// Reads a ticket by the tests 4 to 9, under a setting that has passed 1 to 3.
+pub(crate) fn read(setting: &Setting, bytes: &[u8]) -> Result<Ticket, Refusal> {
+    if bytes.len() as u128 != length(setting) {
+        return Err(Refusal { number: 4, place: 0 });
+    }
+    let (chunks, _) = bytes.as_chunks();
+    let records: Vec<Record> = chunks.iter().map(Record::decode).collect();
+
+    // "Records are counted from 0 over the whole ticket." The first one that is
+    // refused ends the collecting.
+    let expected = Part::ALL
+        .into_iter()
+        .flat_map(|part| part.places(setting).map(move |place| (part, place)));
+    let integers: Vec<i128> = records
+        .iter()
+        .zip(expected)
+        .enumerate()
+        .map(|(index, (record, (part, place)))| {
+            record
+                .integer(setting, part, place)
+                .map_err(|number| Refusal { number, place: index })
+        })
+        .collect::<Result<_, _>>()?;
+
+    let mut rest = integers.into_iter();
+    let [a, b, quotients, remainders] = Part::ALL.map(|part| {
+        let (rows, columns) = part.shape(setting);
+        let columns = columns as usize;
+        Matrix::new(columns, rest.by_ref().take(rows as usize * columns).collect())
+    });
+    let alpha = i128::from(setting.scale);
+    let claims = quotients
+        .entries()
+        .zip(remainders.entries())
+        .map(|(q, r)| alpha * q + r)
+        .collect();
+    Ok(Ticket {
+        a,
+        b,
+        claims: Matrix::new(setting.columns as usize, claims),
+    })
+}

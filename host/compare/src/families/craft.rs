@@ -1,0 +1,316 @@
+//! The pieces that cases are made of.
+
+use apart::make::{sums, Parts};
+use apart::{Answer, Setting};
+
+use crate::cases::{accepted, caught, Case};
+use crate::generator::Generator;
+
+pub const P: u32 = apart::P as u32;
+
+/// "Setting K: ℓ = m = n = 2, s = 1, α = 10, T = 8, v = 5", and the matrices of
+/// the marked examples.
+pub const K: Setting = Setting {
+    rows: 2,
+    inner: 2,
+    columns: 2,
+    vectors: 1,
+    scale: 10,
+    bound: 8,
+    width: 5,
+};
+pub const K_A: [i64; 4] = [3, -2, 5, 4];
+pub const K_B: [i64; 4] = [-1, 6, 7, -8];
+
+/// The largest setting, with quotients of few bits.
+pub const LARGEST: Setting = Setting {
+    rows: 32,
+    inner: 64,
+    columns: 32,
+    vectors: 8,
+    scale: 1000,
+    bound: 100,
+    width: 11,
+};
+
+/// Settings of different shapes that fit, none large.
+pub const SHAPES: [Setting; 5] = [
+    K,
+    Setting {
+        rows: 1,
+        inner: 1,
+        columns: 1,
+        vectors: 1,
+        scale: 2,
+        bound: 1,
+        width: 1,
+    },
+    Setting {
+        rows: 3,
+        inner: 2,
+        columns: 1,
+        vectors: 2,
+        scale: 65_536,
+        bound: 181,
+        width: 13,
+    },
+    Setting {
+        rows: 1,
+        inner: 4,
+        columns: 3,
+        vectors: 3,
+        scale: 7,
+        bound: 100,
+        width: 28,
+    },
+    // By one the first condition of fitting holds here.
+    Setting {
+        rows: 2,
+        inner: 1,
+        columns: 5,
+        vectors: 8,
+        scale: 32_767,
+        bound: 32_767,
+        width: 16,
+    },
+];
+
+/// A number of a setting, with its limits.
+pub struct Field {
+    pub of: fn(&mut Setting) -> &mut u32,
+    pub least: u32,
+    pub greatest: u32,
+    /// The answer to a number outside.
+    pub refusal: u32,
+}
+
+pub const FIELDS: [Field; 7] = [
+    Field {
+        of: |setting| &mut setting.rows,
+        least: 1,
+        greatest: 32,
+        refusal: 1,
+    },
+    Field {
+        of: |setting| &mut setting.inner,
+        least: 1,
+        greatest: 64,
+        refusal: 1,
+    },
+    Field {
+        of: |setting| &mut setting.columns,
+        least: 1,
+        greatest: 32,
+        refusal: 1,
+    },
+    Field {
+        of: |setting| &mut setting.vectors,
+        least: 1,
+        greatest: 8,
+        refusal: 1,
+    },
+    Field {
+        of: |setting| &mut setting.scale,
+        least: 2,
+        greatest: 65_536,
+        refusal: 2,
+    },
+    Field {
+        of: |setting| &mut setting.bound,
+        least: 1,
+        greatest: 32_767,
+        refusal: 2,
+    },
+    Field {
+        of: |setting| &mut setting.width,
+        least: 1,
+        greatest: 30,
+        refusal: 2,
+    },
+];
+
+/// What is left on the right of the first condition of fitting, m·T² + α - 1 ≤
+/// 2^(v-1)·α, within the limits.
+pub fn slack(setting: &Setting) -> i64 {
+    let [m, t, alpha] = [setting.inner, setting.bound, setting.scale].map(i64::from);
+    (alpha << (setting.width - 1)) - (m * t * t + alpha - 1)
+}
+
+/// Whether a setting within the limits fits.
+pub fn fits(setting: &Setting) -> bool {
+    slack(setting) >= 0 && i64::from(setting.scale) << setting.width < i64::from(P)
+}
+
+/// A setting of the given sizes that fits: a bound of any number of bits, then
+/// any scale and width that go with it.
+pub fn fitting(generator: &mut Generator, [rows, inner, columns, vectors]: [u32; 4]) -> Setting {
+    loop {
+        let bits = generator.between(1, 15);
+        let bound = generator.between(1, (1 << bits) - 1) as u32;
+        let bits = generator.between(1, 16);
+        let scale = generator.between(2, 1 << bits) as u32;
+        let widths: Vec<Setting> = (1..=30)
+            .map(|width| Setting {
+                rows,
+                inner,
+                columns,
+                vectors,
+                scale,
+                bound,
+                width,
+            })
+            .filter(fits)
+            .collect();
+        // The smallest width makes quotients come near its ends.
+        match widths.first() {
+            Some(&smallest) if generator.once_in(2) => return smallest,
+            Some(_) => return generator.choose(&widths),
+            None => continue,
+        }
+    }
+}
+
+/// Random sizes up to the given ones.
+pub fn sizes_up_to(generator: &mut Generator, greatest: [u32; 4]) -> [u32; 4] {
+    greatest.map(|size| generator.between(1, i64::from(size)) as u32)
+}
+
+/// Rows, inner, columns and vectors.
+pub fn sizes(setting: &Setting) -> [usize; 4] {
+    [setting.rows, setting.inner, setting.columns, setting.vectors].map(|size| size as usize)
+}
+
+/// The parts of a true ticket with random entries, one in eight of them at an
+/// end of the range.
+pub fn true_parts(generator: &mut Generator, setting: &Setting) -> Parts {
+    let [rows, inner, columns, _] = sizes(setting);
+    let bound = i64::from(setting.bound);
+    let mut matrix = |count| -> Vec<i64> {
+        (0..count)
+            .map(|_| match generator.below(16) {
+                0 => bound,
+                1 => -bound,
+                _ => generator.between(-bound, bound),
+            })
+            .collect()
+    };
+    let (a, b) = (matrix(rows * inner), matrix(inner * columns));
+    Parts::true_ones(setting, &a, &b)
+}
+
+/// The ticket of zeros only, which is true.
+pub fn zeros(setting: &Setting) -> Vec<u8> {
+    let [rows, inner, columns, _] = sizes(setting);
+    Parts {
+        a: vec![0; rows * inner],
+        b: vec![0; inner * columns],
+        quotients: vec![0; rows * columns],
+        remainders: vec![0; rows * columns],
+    }
+    .ticket(setting)
+}
+
+/// A list of the right length with random residues, one in eight of them 0, 1 or
+/// p - 1.
+pub fn list(generator: &mut Generator, setting: &Setting) -> Vec<u32> {
+    let [_, _, columns, vectors] = sizes(setting);
+    (0..vectors * columns)
+        .map(|_| match generator.below(24) {
+            0 => 0,
+            1 => 1,
+            2 => P - 1,
+            _ => generator.word() % P,
+        })
+        .collect()
+}
+
+/// A list of the right length without a zero.
+pub fn list_without_zero(generator: &mut Generator, setting: &Setting) -> Vec<u32> {
+    let mut list = list(generator, setting);
+    for number in &mut list {
+        *number = (*number).max(1);
+    }
+    list
+}
+
+/// Puts another claim within the ranges at row i, column j. It is untrue when
+/// the former was true: αq + r takes each value once.
+pub fn falsify(generator: &mut Generator, setting: &Setting, parts: &mut Parts, i: usize, j: usize) {
+    let half = 1 << (setting.width - 1);
+    let alpha = i64::from(setting.scale);
+    let place = i * setting.columns as usize + j;
+    let (quotient, remainder) = (parts.quotients[place], parts.remainders[place]);
+    loop {
+        let (other_quotient, other_remainder) = match generator.below(4) {
+            0 => (quotient + generator.choose(&[-1, 1]), remainder),
+            1 => (quotient, remainder + generator.choose(&[-1, 1])),
+            2 => (generator.between(-half, half - 1), remainder),
+            _ => (generator.between(-half, half - 1), generator.between(0, alpha - 1)),
+        };
+        let in_range = (-half..half).contains(&other_quotient) && (0..alpha).contains(&other_remainder);
+        if in_range && (other_quotient, other_remainder) != (quotient, remainder) {
+            parts.quotients[place] = other_quotient;
+            parts.remainders[place] = other_remainder;
+            return;
+        }
+    }
+}
+
+/// αq + r - S in every place, row by row.
+pub fn differences(setting: &Setting, parts: &Parts) -> Vec<i128> {
+    let alpha = i128::from(setting.scale);
+    sums(setting, &parts.a, &parts.b)
+        .into_iter()
+        .zip(parts.quotients.iter().zip(&parts.remainders))
+        .map(|(sum, (&q, &r))| alpha * i128::from(q) + i128::from(r) - sum)
+        .collect()
+}
+
+/// The answer to a ticket within the ranges and a well-formed list, found by the
+/// exact sums and not by u: row i is caught when the differences of the row,
+/// times X, do not add up to 0 modulo p.
+pub fn by_sums(setting: &Setting, parts: &Parts, list: &[u32]) -> Answer {
+    let columns = setting.columns as usize;
+    let differences = differences(setting, parts);
+    for (t, x) in list.chunks(columns).enumerate() {
+        for (i, row) in differences.chunks(columns).enumerate() {
+            let sum: i128 = row.iter().zip(x).map(|(&d, &x)| d * i128::from(x)).sum();
+            if sum.rem_euclid(apart::P) != 0 {
+                return caught(setting, t, i);
+            }
+        }
+    }
+    accepted(setting)
+}
+
+/// The case of a ticket within the ranges and a well-formed list.
+pub fn claims_case(what: &'static str, setting: &Setting, parts: &Parts, list: &[u32]) -> Case {
+    Case {
+        what,
+        setting: *setting,
+        ticket: parts.ticket(setting),
+        list: list.to_vec(),
+        expected: Some(by_sums(setting, parts, list)),
+    }
+}
+
+/// The case of the true ticket for A and B.
+pub fn true_case(what: &'static str, setting: &Setting, a: &[i64], b: &[i64], list: &[u32]) -> Case {
+    Case {
+        what,
+        setting: *setting,
+        ticket: apart::true_ticket(setting, a, b),
+        list: list.to_vec(),
+        expected: Some(accepted(setting)),
+    }
+}
+
+/// The true ticket of K with X = (1, 2), case c.
+pub fn case_c() -> Case {
+    true_case("case c", &K, &K_A, &K_B, &[1, 2])
+}
+
+/// Puts a value into a record.
+pub fn set_value(ticket: &mut [u8], record: usize, value: u32) {
+    ticket[8 * record + 4..8 * record + 8].copy_from_slice(&value.to_le_bytes());
+}

@@ -1,0 +1,168 @@
+//! The examples of the scope paper, with the answers that it states.
+
+use apart::make::{residue, Parts};
+use apart::{Answer, Setting};
+
+use super::craft::{case_c, set_value, K, K_A, K_B, P};
+use crate::cases::{refused, Case, Visitor};
+
+const ACCEPTED: Answer = Answer {
+    number: 0,
+    place: 0,
+    row: 0,
+    products: 12,
+};
+
+const CAUGHT: Answer = Answer {
+    number: 12,
+    place: 0,
+    row: 0,
+    products: 8,
+};
+
+/// The true claims under K.
+const QUOTIENTS: [i64; 4] = [-2, 3, 2, -1];
+const REMAINDERS: [i64; 4] = [3, 4, 3, 8];
+
+/// A ticket of K with these claims.
+fn claims(quotients: [i64; 4], remainders: [i64; 4]) -> Vec<u8> {
+    Parts {
+        a: K_A.to_vec(),
+        b: K_B.to_vec(),
+        quotients: quotients.to_vec(),
+        remainders: remainders.to_vec(),
+    }
+    .ticket(&K)
+}
+
+/// The ticket of case d.
+fn first_quotient_false() -> Vec<u8> {
+    claims([-1, 3, 2, -1], REMAINDERS)
+}
+
+/// Case c with another value in one record.
+fn value(what: &'static str, record: usize, value: u32, expected: Answer) -> Case {
+    let mut case = case_c();
+    set_value(&mut case.ticket, record, value);
+    Case {
+        what,
+        expected: Some(expected),
+        ..case
+    }
+}
+
+/// The ticket of case c under another setting.
+fn setting(what: &'static str, setting: Setting, number: u32) -> Case {
+    Case {
+        what,
+        setting,
+        expected: Some(refused(number, 0)),
+        ..case_c()
+    }
+}
+
+fn ticket(what: &'static str, ticket: Vec<u8>, list: [u32; 2], expected: Answer) -> Case {
+    Case {
+        what,
+        setting: K,
+        ticket,
+        list: list.to_vec(),
+        expected: Some(expected),
+    }
+}
+
+/// The rows 1 to 12 of the table, in order.
+pub fn table(visit: &mut Visitor) {
+    visit(&setting("K with n = 33", Setting { columns: 33, ..K }, 1));
+    visit(&setting("K with α = 1", Setting { scale: 1, ..K }, 2));
+    visit(&setting("K with v = 4", Setting { width: 4, ..K }, 3));
+    visit(&ticket("K, 0 bytes", Vec::new(), [1, 2], refused(4, 0)));
+    let mut other_kind = case_c().ticket;
+    other_kind[0] = 0x02;
+    visit(&ticket("record 0 begins 02", other_kind, [1, 2], refused(5, 0)));
+    let mut p_in_record_0 = case_c().ticket;
+    p_in_record_0[4..8].copy_from_slice(&[0xFF, 0xFF, 0xFF, 0x7F]);
+    visit(&ticket("FF FF FF 7F in record 0", p_in_record_0, [1, 2], refused(6, 0)));
+    visit(&value("entry -9 in record 0", 0, residue(-9), refused(7, 0)));
+    visit(&value("quotient 16 in record 8", 8, 16, refused(8, 8)));
+    visit(&value("10 in record 12", 12, 10, refused(9, 12)));
+    visit(&Case {
+        what: "K, 3 numbers",
+        list: vec![1, 2, 3],
+        expected: Some(refused(10, 0)),
+        ..case_c()
+    });
+    visit(&ticket("p at index 1", case_c().ticket, [1, P], refused(11, 1)));
+    visit(&ticket("case e", first_quotient_false(), [1, 5], CAUGHT));
+}
+
+/// The marked examples. Case g is of the full check, and so not here.
+pub fn marked(visit: &mut Visitor) {
+    visit(&ticket(
+        "cases a and b",
+        claims(QUOTIENTS, REMAINDERS),
+        [1, 2],
+        ACCEPTED,
+    ));
+    // Record 8 byte for byte as case b has it.
+    let mut record_8 = case_c().ticket;
+    record_8[64..72].copy_from_slice(&[0x03, 0x00, 0x00, 0x00, 0xFD, 0xFF, 0xFF, 0x7F]);
+    visit(&ticket("case b, record 8", record_8, [1, 2], ACCEPTED));
+    visit(&Case {
+        expected: Some(ACCEPTED),
+        ..case_c()
+    });
+    visit(&ticket("case d", first_quotient_false(), [0, 5], ACCEPTED));
+    visit(&ticket("case e", first_quotient_false(), [1, 5], CAUGHT));
+    let two_false = claims([-1, 4, 2, -1], REMAINDERS);
+    visit(&ticket(
+        "case f, X = (1, p - 1)",
+        two_false.clone(),
+        [1, P - 1],
+        ACCEPTED,
+    ));
+    visit(&ticket("case f, X = (1, 1)", two_false, [1, 1], CAUGHT));
+    visit(&ticket(
+        "case h",
+        claims([-3, 3, 2, -1], [13, 4, 3, 8]),
+        [1, 2],
+        refused(9, 12),
+    ));
+    visit(&setting("case i, T = 9", Setting { bound: 9, ..K }, 3));
+    visit(&ticket(
+        "case i, entry -8",
+        apart::true_ticket(&K, &[-8, -2, 5, 4], &K_B),
+        [1, 2],
+        ACCEPTED,
+    ));
+    visit(&value("case j, quotient -16", 8, residue(-16), CAUGHT));
+    visit(&value("case j, quotient 15", 8, residue(15), CAUGHT));
+    visit(&value("case j, quotient -17", 8, residue(-17), refused(8, 8)));
+    // S = 1 here, and both sides of the claim are 1.
+    let narrow = Setting {
+        rows: 1,
+        inner: 1,
+        columns: 1,
+        vectors: 1,
+        scale: 65_536,
+        bound: 1,
+        width: 14,
+    };
+    let one = Case {
+        what: "case k, v = 14",
+        setting: narrow,
+        ticket: apart::true_ticket(&narrow, &[1], &[1]),
+        list: vec![1],
+        expected: Some(Answer {
+            products: 3,
+            ..ACCEPTED
+        }),
+    };
+    visit(&one);
+    visit(&Case {
+        what: "case k, v = 15",
+        setting: Setting { width: 15, ..narrow },
+        expected: Some(refused(3, 0)),
+        ..one
+    });
+}

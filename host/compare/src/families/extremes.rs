@@ -1,0 +1,140 @@
+//! Entries, quotients and remainders at the ends of their ranges and just
+//! outside.
+
+use apart::make::{residue, Parts};
+use apart::Setting;
+
+use super::craft::{by_sums, claims_case, list_without_zero, set_value, sizes, true_parts, LARGEST, P, SHAPES};
+use crate::cases::{refused, Case, Visitor};
+use crate::generator::Generator;
+
+/// Settings at the ends of what fits, and the small shapes.
+fn settings() -> impl Iterator<Item = Setting> {
+    let of_two = |scale, bound, width| Setting {
+        rows: 2,
+        inner: 1,
+        columns: 2,
+        vectors: 2,
+        scale,
+        bound,
+        width,
+    };
+    let narrow_and_wide = [
+        // v = 1: the quotients are -1 and 0.
+        of_two(2, 1, 1),
+        of_two(65_536, 1, 1),
+        of_two(65_536, 1, 14),
+        of_two(2, 23_170, 29),
+        of_two(3, 28_377, 29),
+        of_two(65_535, 32_766, 15),
+    ];
+    SHAPES.into_iter().chain(narrow_and_wide)
+}
+
+/// Every entry of A and B at T or -T, in patterns that make the sums the largest
+/// and the smallest and change between.
+pub fn entries(visit: &mut Visitor) {
+    let mut generator = Generator::new(601);
+    let widest = Setting {
+        scale: 7,
+        bound: 3_547,
+        width: 28,
+        ..LARGEST
+    };
+    for setting in settings().chain([LARGEST, widest]) {
+        let [rows, inner, columns, _] = sizes(&setting);
+        let bound = i64::from(setting.bound);
+        let patterns: [fn(usize) -> i64; 4] = [
+            |_| 1,
+            |_| -1,
+            |index| if index % 2 == 0 { 1 } else { -1 },
+            |index| if index % 3 == 0 { -1 } else { 1 },
+        ];
+        for in_a in patterns {
+            for in_b in patterns {
+                let a: Vec<i64> = (0..rows * inner).map(|index| bound * in_a(index)).collect();
+                let b: Vec<i64> = (0..inner * columns).map(|index| bound * in_b(index)).collect();
+                let parts = Parts::true_ones(&setting, &a, &b);
+                let list = list_without_zero(&mut generator, &setting);
+                visit(&claims_case("entries T and -T", &setting, &parts, &list));
+                visit(&claims_case(
+                    "entries T and -T, list of p - 1",
+                    &setting,
+                    &parts,
+                    &vec![P - 1; list.len()],
+                ));
+                visit_extreme_claims(visit, &setting, &parts, &list);
+            }
+        }
+    }
+}
+
+/// Every claim at an end of its range: quotients -2^(v-1) and 2^(v-1) - 1,
+/// remainders 0 and α - 1.
+fn visit_extreme_claims(visit: &mut Visitor, setting: &Setting, parts: &Parts, list: &[u32]) {
+    let half = 1 << (setting.width - 1);
+    for quotient in [-half, half - 1] {
+        for remainder in [0, i64::from(setting.scale) - 1] {
+            let mut parts = parts.clone();
+            parts.quotients.fill(quotient);
+            parts.remainders.fill(remainder);
+            visit(&claims_case("claims at their ends", setting, &parts, list));
+        }
+    }
+}
+
+/// In every record each value at an end of a range, and next to it.
+pub fn values(visit: &mut Visitor) {
+    let mut generator = Generator::new(602);
+    for setting in settings() {
+        let right = true_parts(&mut generator, &setting);
+        let list = list_without_zero(&mut generator, &setting);
+        let mut case = Case {
+            what: "an extreme value",
+            setting,
+            ticket: right.ticket(&setting),
+            list,
+            expected: None,
+        };
+        let [rows, inner, columns, _] = sizes(&setting);
+        let (a, b, claims) = (rows * inner, inner * columns, rows * columns);
+        let bound = i64::from(setting.bound);
+        let alpha = i64::from(setting.scale);
+        let half = 1 << (setting.width - 1);
+        let ends = [0, bound, -bound, half, -half, 2 * half, -2 * half, alpha, -alpha];
+        let near = ends.iter().flat_map(|&end| end - 2..=end + 2);
+        let middle = i64::from(P / 2);
+        let entries: Vec<i64> = near.chain(-middle..=-middle + 1).chain(middle - 1..=middle).collect();
+        for record in 0..case.ticket.len() / 8 {
+            let former = case.ticket.clone();
+            for &entry in &entries {
+                // The same record in the parts, and whether it is in range.
+                let mut parts = right.clone();
+                let (place, in_range, number) = if record < a {
+                    (&mut parts.a[record], entry.abs() <= bound, 7)
+                } else if record < a + b {
+                    (&mut parts.b[record - a], entry.abs() <= bound, 7)
+                } else if record < a + b + claims {
+                    (&mut parts.quotients[record - a - b], (-half..half).contains(&entry), 8)
+                } else {
+                    let place = &mut parts.remainders[record - a - b - claims];
+                    (place, (0..alpha).contains(&entry), 9)
+                };
+                *place = entry;
+                set_value(&mut case.ticket, record, residue(entry));
+                case.expected = Some(if in_range {
+                    by_sums(&setting, &parts, &case.list)
+                } else {
+                    refused(number, record)
+                });
+                visit(&case);
+            }
+            for value in [P, P + 1, 1 << 31, 2 * (P - 1), 2 * P, u32::MAX] {
+                set_value(&mut case.ticket, record, value);
+                case.expected = Some(refused(6, record));
+                visit(&case);
+            }
+            case.ticket = former;
+        }
+    }
+}

@@ -1,0 +1,76 @@
+//! Tickets of other lengths, and of the right length for other sizes.
+
+use apart::make::ticket_length;
+use apart::Setting;
+
+use super::craft::{list, sizes, true_parts, zeros, LARGEST, SHAPES};
+use crate::cases::{accepted, refused, Case, Visitor};
+use crate::generator::Generator;
+
+/// Every length from 0 to some records past the right one, filled with zeros or
+/// with the ticket over again. For the largest setting only those around the
+/// right one and around the ends of the parts.
+pub fn tickets(visit: &mut Visitor) {
+    let mut generator = Generator::new(301);
+    for setting in SHAPES.into_iter().chain([LARGEST]) {
+        let ticket = true_parts(&mut generator, &setting).ticket(&setting);
+        let right = ticket.len();
+        let list = list(&mut generator, &setting);
+        let [rows, inner, columns, _] = sizes(&setting);
+        let parts = [rows * inner, inner * columns, rows * columns];
+        let lengths: Vec<usize> = if setting == LARGEST {
+            let ends = [0, 8 * parts[0], 8 * (parts[0] + parts[1]), right - 8 * parts[2], right];
+            ends.iter().flat_map(|&end| end.saturating_sub(9)..=end + 9).collect()
+        } else {
+            (0..=right + 80).chain([2 * right]).collect()
+        };
+        for length in lengths {
+            for longer in [[0].as_slice(), &ticket] {
+                visit(&Case {
+                    what: "cut off or lengthened",
+                    setting,
+                    ticket: ticket
+                        .iter()
+                        .chain(longer.iter().cycle())
+                        .copied()
+                        .take(length)
+                        .collect(),
+                    list: list.clone(),
+                    expected: Some(if length == right {
+                        accepted(&setting)
+                    } else {
+                        refused(4, 0)
+                    }),
+                });
+            }
+        }
+    }
+}
+
+/// The ticket of zeros of one size under the setting of another that asks for the
+/// same length: only the heads of the records tell them apart.
+pub fn other_sizes(visit: &mut Visitor) {
+    let settings: Vec<Setting> = (0..6_u32.pow(3))
+        .map(|index| Setting {
+            rows: index % 6 + 1,
+            inner: index / 6 % 6 + 1,
+            columns: index / 36 + 1,
+            vectors: 1,
+            ..LARGEST
+        })
+        .collect();
+    for written in &settings {
+        let ticket = zeros(written);
+        for &setting in &settings {
+            if ticket_length(&setting) == ticket.len() as u128 {
+                visit(&Case {
+                    what: "zeros of another size",
+                    setting,
+                    ticket: ticket.clone(),
+                    list: vec![1; setting.columns as usize],
+                    expected: (setting == *written).then(|| accepted(&setting)),
+                });
+            }
+        }
+    }
+}

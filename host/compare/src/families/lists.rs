@@ -1,0 +1,66 @@
+//! Lists of other lengths, and list numbers at and beyond p.
+
+use super::craft::{list, true_parts, LARGEST, P, SHAPES};
+use crate::cases::{accepted, refused, Case, Visitor};
+use crate::generator::Generator;
+
+/// Every length from 0 to some numbers past the right one.
+pub fn lengths(visit: &mut Visitor) {
+    let mut generator = Generator::new(401);
+    for setting in SHAPES.into_iter().chain([LARGEST]) {
+        let ticket = true_parts(&mut generator, &setting).ticket(&setting);
+        let right = (setting.vectors * setting.columns) as usize;
+        for filling in [0, 1, P - 1, P, u32::MAX] {
+            for length in (0..=right + 40).chain([2 * right, 1000]) {
+                let expected = match length {
+                    _ if length != right => refused(10, 0),
+                    _ if filling < P => accepted(&setting),
+                    _ => refused(11, 0),
+                };
+                visit(&Case {
+                    what: "a list of one number over and over",
+                    setting,
+                    ticket: ticket.clone(),
+                    list: vec![filling; length],
+                    expected: Some(expected),
+                });
+            }
+        }
+    }
+}
+
+/// Numbers around p, and the largest, at every index; then two of them.
+pub fn numbers(visit: &mut Visitor) {
+    let mut generator = Generator::new(402);
+    for setting in SHAPES.into_iter().chain([LARGEST]) {
+        let mut case = Case {
+            what: "one number replaced",
+            setting,
+            ticket: true_parts(&mut generator, &setting).ticket(&setting),
+            list: list(&mut generator, &setting),
+            expected: None,
+        };
+        for index in 0..case.list.len() {
+            let former = case.list[index];
+            for number in [0, 1, P - 2, P - 1, P, P + 1, P + 2, u32::MAX - 1, u32::MAX] {
+                case.list[index] = number;
+                case.expected = Some(if number < P {
+                    accepted(&setting)
+                } else {
+                    refused(11, index)
+                });
+                visit(&case);
+            }
+            // The first index decides, also where the later number is the
+            // larger one.
+            let later = index + generator.below(case.list.len() - index);
+            let former_later = case.list[later];
+            case.list[later] = u32::MAX;
+            case.list[index] = P;
+            case.expected = Some(refused(11, index));
+            visit(&case);
+            case.list[later] = former_later;
+            case.list[index] = former;
+        }
+    }
+}

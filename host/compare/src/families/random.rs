@@ -1,0 +1,205 @@
+//! Random cases. Most are a ticket within the ranges, damaged in ways drawn at
+//! random, none, one or several.
+
+use super::craft::{claims_case, falsify, fitting, list, set_value, sizes, sizes_up_to, true_parts, FIELDS, K, P};
+use crate::cases::{Case, Visitor};
+use crate::generator::Generator;
+
+pub fn small(visit: &mut Visitor) {
+    tickets(visit, 701, 400_000, [4, 4, 4, 3]);
+}
+
+pub fn medium(visit: &mut Visitor) {
+    tickets(visit, 702, 20_000, [12, 12, 12, 8]);
+}
+
+pub fn large(visit: &mut Visitor) {
+    tickets(visit, 703, 500, [32, 64, 32, 8]);
+}
+
+fn tickets(visit: &mut Visitor, seed: u64, count: usize, most: [u32; 4]) {
+    let mut generator = Generator::new(seed);
+    for _ in 0..count {
+        let mut case = within_ranges(&mut generator, most);
+        if !generator.once_in(3) {
+            let damages = if generator.once_in(4) { 2 } else { 1 };
+            for _ in 0..damages {
+                generator.choose(&DAMAGES)(&mut generator, &mut case);
+            }
+            case.what = "damaged at random";
+            case.expected = None;
+        }
+        visit(&case);
+    }
+}
+
+/// A ticket within the ranges, one in two of them false in one place or several,
+/// with a list that is well formed and often has zeros.
+fn within_ranges(generator: &mut Generator, most: [u32; 4]) -> Case {
+    let sizes_of_ticket = sizes_up_to(generator, most);
+    let setting = fitting(generator, sizes_of_ticket);
+    let [rows, _, columns, _] = sizes(&setting);
+    let mut parts = true_parts(generator, &setting);
+    if generator.once_in(2) {
+        for _ in 0..=generator.below(3) {
+            let (i, j) = (generator.below(rows), generator.below(columns));
+            falsify(generator, &setting, &mut parts, i, j);
+        }
+    }
+    let mut list = list(generator, &setting);
+    if generator.once_in(2) {
+        let j = generator.below(columns);
+        let vectors = generator.below(list.len() / columns + 1);
+        for vector in list.chunks_mut(columns).take(vectors) {
+            vector[j] = 0;
+        }
+    }
+    claims_case("within the ranges, random", &setting, &parts, &list)
+}
+
+type Damage = fn(&mut Generator, &mut Case);
+
+const DAMAGES: [Damage; 11] = [
+    one_byte,
+    one_bit,
+    one_value,
+    value_near_a_limit,
+    two_records_change_places,
+    one_record_over_another,
+    other_ticket_length,
+    other_list_length,
+    one_list_number,
+    one_number_of_the_setting,
+    one_number_of_the_setting_by_one,
+];
+
+/// An index into something that an earlier damage may have emptied.
+fn index(generator: &mut Generator, length: usize) -> Option<usize> {
+    (length > 0).then(|| generator.below(length))
+}
+
+fn one_byte(generator: &mut Generator, case: &mut Case) {
+    if let Some(index) = index(generator, case.ticket.len()) {
+        case.ticket[index] = generator.word() as u8;
+    }
+}
+
+fn one_bit(generator: &mut Generator, case: &mut Case) {
+    if let Some(index) = index(generator, case.ticket.len()) {
+        case.ticket[index] ^= 1 << generator.below(8);
+    }
+}
+
+fn one_value(generator: &mut Generator, case: &mut Case) {
+    if let Some(record) = index(generator, case.ticket.len() / 8) {
+        let value = generator.word() >> generator.below(32);
+        set_value(&mut case.ticket, record, value);
+    }
+}
+
+fn value_near_a_limit(generator: &mut Generator, case: &mut Case) {
+    if let Some(record) = index(generator, case.ticket.len() / 8) {
+        let half = 1 << (case.setting.width.clamp(1, 30) - 1);
+        let limits = [0, case.setting.bound, case.setting.scale, half, 2 * half, P];
+        let limit = generator.choose(&limits);
+        let limit = if generator.once_in(2) {
+            P.wrapping_sub(limit)
+        } else {
+            limit
+        };
+        let step = generator.below(5) as u32;
+        set_value(&mut case.ticket, record, limit.wrapping_add(step).wrapping_sub(2));
+    }
+}
+
+fn two_records_change_places(generator: &mut Generator, case: &mut Case) {
+    let records = case.ticket.len() / 8;
+    if let (Some(one), Some(two)) = (index(generator, records), index(generator, records)) {
+        for byte in 0..8 {
+            case.ticket.swap(8 * one + byte, 8 * two + byte);
+        }
+    }
+}
+
+fn one_record_over_another(generator: &mut Generator, case: &mut Case) {
+    let records = case.ticket.len() / 8;
+    if let (Some(from), Some(to)) = (index(generator, records), index(generator, records)) {
+        case.ticket.copy_within(8 * from..8 * from + 8, 8 * to);
+    }
+}
+
+fn other_ticket_length(generator: &mut Generator, case: &mut Case) {
+    let length = case.ticket.len();
+    let other = match generator.below(4) {
+        0 => generator.below(length + 1),
+        1 => length + generator.below(17),
+        2 => length + 8,
+        _ => length.saturating_sub(8),
+    };
+    case.ticket.resize(other, 0);
+}
+
+fn other_list_length(generator: &mut Generator, case: &mut Case) {
+    let length = case.list.len();
+    let other = match generator.below(3) {
+        0 => generator.below(length + 1),
+        1 => length + 1 + generator.below(8),
+        _ => length.saturating_sub(1),
+    };
+    case.list.resize(other, 0);
+}
+
+fn one_list_number(generator: &mut Generator, case: &mut Case) {
+    if let Some(index) = index(generator, case.list.len()) {
+        case.list[index] = match generator.below(3) {
+            0 => generator.word(),
+            1 => generator.between(i64::from(P) - 2, i64::from(P) + 2) as u32,
+            _ => P | generator.word(),
+        };
+    }
+}
+
+fn one_number_of_the_setting(generator: &mut Generator, case: &mut Case) {
+    let field = &FIELDS[generator.below(FIELDS.len())];
+    *(field.of)(&mut case.setting) = generator.word() >> generator.below(32);
+}
+
+fn one_number_of_the_setting_by_one(generator: &mut Generator, case: &mut Case) {
+    let field = &FIELDS[generator.below(FIELDS.len())];
+    let number = (field.of)(&mut case.setting);
+    *number = match generator.below(2) {
+        0 => number.wrapping_add(1),
+        _ => number.wrapping_sub(1),
+    };
+}
+
+/// Settings of random numbers, mostly within the limits, with no byte or
+/// with zeros, so that the tests 1 to 5 decide.
+pub fn settings(visit: &mut Visitor) {
+    let mut generator = Generator::new(704);
+    for round in 0..400_000 {
+        let mut setting = K;
+        for field in &FIELDS {
+            let [least, greatest] = [field.least, field.greatest].map(i64::from);
+            *(field.of)(&mut setting) = match generator.below(32) {
+                0 => generator.word(),
+                1 => generator.word() >> generator.below(32),
+                2 => generator.between(least - 1, least) as u32,
+                3 => generator.between(greatest, greatest + 1) as u32,
+                // Any number of bits, since small bounds fit more often.
+                _ => {
+                    let bits = generator.between(0, 16);
+                    generator.between(least, greatest.min(least + (1 << bits) - 1)) as u32
+                }
+            };
+        }
+        let length = if round % 2 == 0 { 0 } else { generator.below(257) };
+        visit(&Case {
+            what: "a random setting",
+            setting,
+            ticket: vec![0; length],
+            list: Vec::new(),
+            expected: None,
+        });
+    }
+}

@@ -1,0 +1,219 @@
+//! Settings within, at and beyond their limits, and at the edge of fitting.
+
+use apart::make::{ticket_length, Parts};
+use apart::{Answer, Setting};
+
+use super::craft::{fits, slack, zeros, Field, FIELDS, K, LARGEST, P, SHAPES};
+use crate::cases::{accepted, refused, Case, Visitor};
+
+/// The values to try in a number of the setting.
+fn values(field: &Field) -> Vec<u32> {
+    let mut values = vec![
+        0,
+        1,
+        field.least - 1,
+        field.least,
+        field.least + 1,
+        field.greatest - 1,
+        field.greatest,
+        field.greatest + 1,
+        // Where a byte, 16 bits, a signed number or p ends.
+        255,
+        256,
+        257,
+        65_535,
+        65_536,
+        65_537,
+        1 << 30,
+        P - 1,
+        P,
+        1 << 31,
+        (1 << 31) + 1,
+        u32::MAX - 1,
+        u32::MAX,
+    ];
+    // What would be within the limits if the upper bits were dropped.
+    values.extend([8, 16, 24, 31].map(|bits| field.least + (1 << bits)));
+    values.sort_unstable();
+    values.dedup();
+    values
+}
+
+/// The refusal of a setting outside its limits.
+fn refusal(setting: &Setting) -> Option<u32> {
+    FIELDS
+        .iter()
+        .filter(|field| {
+            let number = *(field.of)(&mut setting.clone());
+            number < field.least || field.greatest < number
+        })
+        .map(|field| field.refusal)
+        .min()
+}
+
+/// The stated answer to a setting with a ticket of zeros and a list to match, if
+/// they do, and to no byte otherwise.
+fn stated(setting: &Setting, matching: bool) -> Answer {
+    match refusal(setting) {
+        Some(number) => refused(number, 0),
+        None if !fits(setting) => refused(3, 0),
+        None if matching => accepted(setting),
+        None => refused(4, 0),
+    }
+}
+
+/// A setting with no byte and with a ticket and a list that match it, where they
+/// are not above this length.
+fn visit_setting(visit: &mut Visitor, setting: Setting, longest: u128) {
+    visit(&Case {
+        what: "no byte",
+        setting,
+        ticket: Vec::new(),
+        list: Vec::new(),
+        // A ticket without a record matches when two of the sizes are 0, and
+        // such a setting is refused.
+        expected: Some(stated(&setting, false)),
+    });
+    let numbers = u128::from(setting.vectors) * u128::from(setting.columns);
+    if ticket_length(&setting) <= longest && numbers <= longest {
+        visit(&Case {
+            what: "a ticket of zeros and a list that match",
+            setting,
+            ticket: zeros(&setting),
+            list: vec![1; numbers as usize],
+            expected: Some(stated(&setting, true)),
+        });
+    }
+}
+
+/// Each number of the setting alone at every value.
+pub fn limits(visit: &mut Visitor) {
+    for base in SHAPES.into_iter().chain([LARGEST]) {
+        for field in &FIELDS {
+            for value in values(field) {
+                let mut setting = base;
+                *(field.of)(&mut setting) = value;
+                visit_setting(visit, setting, 200_000);
+            }
+        }
+    }
+}
+
+/// Two numbers of the setting at every pair of values, and then all seven at
+/// once.
+pub fn pairs_of_limits(visit: &mut Visitor) {
+    for (index, first) in FIELDS.iter().enumerate() {
+        for second in &FIELDS[index + 1..] {
+            for one in values(first) {
+                for two in values(second) {
+                    let mut setting = K;
+                    *(first.of)(&mut setting) = one;
+                    *(second.of)(&mut setting) = two;
+                    visit_setting(visit, setting, 2_000);
+                }
+            }
+        }
+    }
+    for value in FIELDS.iter().flat_map(values) {
+        let mut setting = K;
+        for field in &FIELDS {
+            *(field.of)(&mut setting) = value;
+        }
+        visit_setting(visit, setting, 2_000);
+    }
+}
+
+/// Scales on both sides of each condition of fitting. The tickets are true and
+/// have the greatest sums that there are, so that the quotients reach the end of
+/// their range where the first condition holds by nothing.
+pub fn edge_of_fitting(visit: &mut Visitor) {
+    for inner in [1, 2, 3, 31, 32, 63, 64] {
+        for bound in [
+            1, 2, 3, 8, 9, 181, 182, 255, 256, 1023, 1024, 4095, 4096, 32_766, 32_767,
+        ] {
+            for width in 1..=30 {
+                for scale in scales_at_the_edge(inner, bound, width) {
+                    let setting = Setting {
+                        rows: 1,
+                        inner,
+                        columns: 1,
+                        vectors: 1,
+                        scale,
+                        bound,
+                        width,
+                    };
+                    visit_greatest_sums(visit, setting);
+                }
+            }
+        }
+    }
+}
+
+/// Within the limits: the scales around where m·T² + α - 1 ≤ 2^(v-1)·α begins to
+/// hold, those around where 2^v·α < p ends, and the limits themselves.
+fn scales_at_the_edge(inner: u32, bound: u32, width: u32) -> Vec<u32> {
+    let [m, t, p] = [inner, bound, P].map(i64::from);
+    // The first condition is m·T² - 1 ≤ (2^(v-1) - 1)·α; for v = 1 it does not
+    // depend on α.
+    let factor = (1 << (width - 1)) - 1;
+    let first = if factor == 0 { 2 } else { (m * t * t - 1) / factor };
+    let second = (p - 1) >> width;
+    let mut scales: Vec<i64> = [first, second]
+        .into_iter()
+        .flat_map(|edge| edge - 2..=edge + 2)
+        .chain([2, 3, 65_535, 65_536])
+        .filter(|scale| (2..=65_536).contains(scale))
+        .collect();
+    scales.sort_unstable();
+    scales.dedup();
+    scales.into_iter().map(|scale| scale as u32).collect()
+}
+
+fn visit_greatest_sums(visit: &mut Visitor, setting: Setting) {
+    let what = match slack(&setting) {
+        0 => "the first condition holds by nothing",
+        -1 => "the first condition fails by one",
+        1 => "the first condition holds by one",
+        _ => "near an edge of fitting",
+    };
+    let bound = i64::from(setting.bound);
+    let expected = if fits(&setting) {
+        accepted(&setting)
+    } else {
+        refused(3, 0)
+    };
+    for sign in [-1, 1] {
+        let a = vec![bound; setting.inner as usize];
+        let b = vec![sign * bound; setting.inner as usize];
+        visit(&Case {
+            what,
+            setting,
+            ticket: Parts::true_ones(&setting, &a, &b).ticket(&setting),
+            list: vec![P - 1],
+            expected: Some(expected),
+        });
+    }
+}
+
+#[cfg(test)]
+mod tests {
+    use super::*;
+
+    /// The family would be of no use without the cases that it is made for.
+    #[test]
+    fn the_edge_is_met_from_both_sides() {
+        let mut slacks = [0; 3];
+        let mut by_second = [0; 2];
+        edge_of_fitting(&mut |case| {
+            let slack = slack(&case.setting);
+            if (-1..=1).contains(&slack) {
+                slacks[(slack + 1) as usize] += 1;
+            }
+            if slack >= 0 {
+                by_second[usize::from(fits(&case.setting))] += 1;
+            }
+        });
+        assert!(slacks.iter().all(|&count| count > 20), "{slacks:?}");
+        assert!(by_second.iter().all(|&count| count > 100), "{by_second:?}");
+    }
+}

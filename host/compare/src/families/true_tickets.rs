@@ -1,0 +1,84 @@
+//! True tickets, which every well-formed list is accepted with.
+
+use apart::Setting;
+
+use super::craft::{claims_case, fitting, list, sizes, true_parts, LARGEST, P};
+use crate::cases::{accepted, Case, Visitor};
+use crate::generator::Generator;
+
+/// Lists of each kind: random, one number over and over, one number that is not
+/// 0 in each vector.
+fn lists(generator: &mut Generator, setting: &Setting) -> Vec<Vec<u32>> {
+    let [_, _, columns, vectors] = sizes(setting);
+    let count = vectors * columns;
+    let mut lists = vec![
+        list(generator, setting),
+        vec![0; count],
+        vec![1; count],
+        vec![P - 1; count],
+    ];
+    let mut units = vec![0; count];
+    for vector in units.chunks_mut(columns) {
+        vector[generator.below(columns)] = 1;
+    }
+    lists.push(units);
+    lists
+}
+
+fn visit_true(visit: &mut Visitor, generator: &mut Generator, setting: &Setting) {
+    let parts = true_parts(generator, setting);
+    let ticket = parts.ticket(setting);
+    for list in lists(generator, setting) {
+        visit(&Case {
+            what: "true",
+            setting: *setting,
+            ticket: ticket.clone(),
+            list,
+            expected: Some(accepted(setting)),
+        });
+    }
+}
+
+/// Sizes at, next to and between the limits, up to the largest with every number
+/// of vectors.
+pub fn sizes_and_largest() -> impl Iterator<Item = [u32; 4]> {
+    let outer = [1, 2, 3, 5, 8, 16, 31, 32];
+    let inner = [1, 2, 3, 7, 8, 16, 33, 63, 64];
+    let mixed = outer.into_iter().flat_map(move |rows| {
+        inner
+            .into_iter()
+            .flat_map(move |inner| outer.map(move |columns| [rows, inner, columns]))
+    });
+    let vectors = (1..=8).cycle();
+    let largest = (1..=8).map(|vectors| [LARGEST.rows, LARGEST.inner, LARGEST.columns, vectors]);
+    mixed
+        .zip(vectors)
+        .map(|([rows, inner, columns], vectors)| [rows, inner, columns, vectors])
+        .chain(largest)
+}
+
+pub fn many_sizes(visit: &mut Visitor) {
+    let mut generator = Generator::new(101);
+    for sizes in sizes_and_largest() {
+        let setting = fitting(&mut generator, sizes);
+        visit_true(visit, &mut generator, &setting);
+    }
+}
+
+/// Every size up to 4 with every number of vectors.
+pub fn small_sizes(visit: &mut Visitor) {
+    let mut generator = Generator::new(102);
+    for index in 0..4_u32.pow(3) * 8 {
+        let sizes = [
+            index / 8 % 4 + 1,
+            index / 32 % 4 + 1,
+            index / 128 % 4 + 1,
+            index % 8 + 1,
+        ];
+        let setting = fitting(&mut generator, sizes);
+        let parts = true_parts(&mut generator, &setting);
+        for list in lists(&mut generator, &setting) {
+            visit(&claims_case("true", &setting, &parts, &list));
+        }
+    }
+}

@@ -1,0 +1,135 @@
+/*
+ * The layer ticket and its checker: residue arithmetic modulo p = 2147483647
+ * (a prime, 2^31 - 1) and the challenge check.
+ *
+ * Every call takes every number, whatever its value, and every byte; nothing is
+ * undefined and nothing is written anywhere. A pointer lends for reading as many
+ * items as the length beside it says.
+ *
+ * In the residue calls a residue is handed in by any number that is equal to it
+ * modulo p: an argument of p or more is reduced first. A residue that is handed
+ * out is the least one, from 0 to p - 1.
+ *
+ * Link libdikdumar.a, which `rt staticlib dikdumar` writes to target/staticlib/.
+ * It holds the residue calls too, so dikdumar_residue.h and its archive are not
+ * needed beside it.
+ */
+#ifndef DIKDUMAR_H
+#define DIKDUMAR_H
+
+#include <stddef.h>
+#include <stdint.h>
+
+#ifdef __cplusplus
+extern "C" {
+#endif
+
+/* Residues */
+
+/* The least residue of x. */
+uint32_t dikdumar_reduce(uint32_t x);
+
+/* The least residue of x + y. */
+uint32_t dikdumar_add(uint32_t x, uint32_t y);
+
+/* The least residue of x - y, also where x is below y. */
+uint32_t dikdumar_subtract(uint32_t x, uint32_t y);
+
+/* The least residue of the exact product of x and y. */
+uint32_t dikdumar_multiply(uint32_t x, uint32_t y);
+
+/* The least residue of a signed number, any of the 2^32. */
+uint32_t dikdumar_from_signed(int32_t x);
+
+/*
+ * The signed entry that the residue x stands for: the number from
+ * -(p - 1)/2 to (p - 1)/2 that is equal to x modulo p.
+ */
+int32_t dikdumar_to_signed(uint32_t x);
+
+/* 2^k for k from 0 to 30, and 0 for every larger k. */
+uint32_t dikdumar_power_of_two(uint32_t k);
+
+/* Tickets */
+
+/*
+ * The public numbers of a check. They come from the caller, never from the
+ * ticket. Below, l, m, n, s, a, T and v stand for them in this order.
+ *
+ * A setting fits when m*T^2 + a - 1 <= 2^(v-1)*a and 2^v*a < p. Any v that fits
+ * is taken, not only the smallest.
+ */
+typedef struct {
+    uint32_t rows;    /* l, rows of A: 1 to 32 */
+    uint32_t inner;   /* m, columns of A and rows of B: 1 to 64 */
+    uint32_t columns; /* n, columns of B: 1 to 32 */
+    uint32_t vectors; /* s, challenge vectors: 1 to 8 */
+    uint32_t scale;   /* a, by which sums are divided: 2 to 65536 */
+    uint32_t bound;   /* T, entries of A and B are from -T to T: 1 to 32767 */
+    uint32_t width;   /* v, quotients are from -2^(v-1) to 2^(v-1) - 1: 1 to 30 */
+} dikdumar_setting;
+
+/* The answer of a check; the table below says what each number means. */
+typedef struct {
+    uint32_t number;   /* what was found, 0 when accepted */
+    uint32_t place;    /* where: a record, a list index or a vector, from 0 */
+    uint32_t row;      /* the row that was caught, from 0, else 0 */
+    uint32_t products; /* the products made; 0 but for the numbers 0 and 12 */
+} dikdumar_answer;
+
+/*
+ * Checks a ticket against a list of challenges.
+ *
+ * The ticket holds A (l by m), B (m by n), quotients q and remainders r (both l
+ * by n) in this order, each row by row, in records of 8 bytes:
+ *
+ *     byte 0      kind: 1 for A, 2 for B, 3 for a quotient, 4 for a remainder
+ *     byte 1      zero
+ *     byte 2, 3   row, column, from 0
+ *     byte 4-7    value: a least residue, little-endian
+ *
+ * The claim at row i, column j is true when a*q + r is the exact sum of
+ * A(i,k)*B(k,j) over all k. The list holds s vectors of n least residues, one
+ * vector after another. For each vector X, B times X is worked out once, and
+ * then for each row both sides are compared modulo p: the claims of the row
+ * times X, and the row of A times that. A true ticket is accepted with every
+ * such list. A false one passes only where its errors cancel, so the list is to
+ * be drawn at random once the ticket is fixed.
+ *
+ *     number  meaning                                        place
+ *        0    accepted                                       0
+ *        1    l, m, n or s outside its limits                0
+ *        2    a, T or v outside its limits                   0
+ *        3    the setting does not fit                       0
+ *        4    ticket_length is not 8*(l*m + m*n + 2*l*n)     0
+ *        5    kind, zero byte, row or column unexpected      record
+ *        6    value of p or more                             record
+ *        7    entry of A or B beyond T                       record
+ *        8    quotient outside -2^(v-1) to 2^(v-1) - 1       record
+ *        9    remainder of a or more                         record
+ *       10    list_length is not s*n                         0
+ *       11    list number of p or more                       its index
+ *       12    caught: the two sides of a row are unequal     vector t
+ *
+ * The first test that fails decides: 1 to 4 in order, then record after record
+ * each by 5, 6 and its own range, then 10, 11 and 12. Records are counted from 0
+ * over the whole ticket. Row and products are 0 except in these answers:
+ *
+ *     accepted                     products s*(m*n + l*n + l*m)
+ *     caught in vector t, row i    row i,
+ *                                  products t*(m*n + l*n + l*m)
+ *                                           + m*n + (i + 1)*(n + m)
+ *
+ * ticket lends ticket_length bytes and list lends list_length numbers. Both are
+ * read only, and only during the call; with a length of 0 nothing is read, but
+ * the pointer is to be a valid one all the same, not NULL.
+ */
+dikdumar_answer dikdumar_challenge_check(dikdumar_setting setting,
+                                         const uint8_t *ticket, size_t ticket_length,
+                                         const uint32_t *list, size_t list_length);
+
+#ifdef __cplusplus
+}
+#endif
+
+#endif
