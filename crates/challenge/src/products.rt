@@ -4,8 +4,8 @@ ghost use mathlib.Core.Path.{_≡_};
 ghost use lib.ListN.{length};
 ghost use Rattle.challenge.specs.Laws.Products.{dotOf, Inside, Product, Sized};
 use residue::ProductSum;
-use ticket::Setting;
 use ticket::RECORD;
+use ticket::Setting;
 use ticket::word;
 
 // The most rows that a matrix has here: B has as many as A has columns.

@@ -40,7 +40,7 @@ unfoldable pub sum : ℕ → (ℕ → ℕ) → ℕ
 sum zero f = 0
 sum (suc n) f = sum n f + f n
 
--- the product's low half goes to the one word, its high half to the other, each modulo 2^64
+-- the product's low 31 bits go to the one word, what stands above them to the other, each modulo 2^64
 pub record WithProduct (low high x y low' high' : ℕ) : Type 0 where
-  pub low-is : low' ≡ (low + x * y % 2 ^ 32) % 2 ^ 64
-  pub high-is : high' ≡ (high + x * y / 2 ^ 32) % 2 ^ 64
+  pub low-is : low' ≡ (low + x * y % 2 ^ 31) % 2 ^ 64
+  pub high-is : high' ≡ (high + x * y / 2 ^ 31) % 2 ^ 64

@@ -1,10 +1,10 @@
 // Records and parts of a ticket: tests 5 to 9.
 ghost use mathlib.Core.Path.{_≡_};
-ghost use Prim.Native.Nat.{_+_, _*_, _≤_, _<_};
+ghost use Prim.Native.Nat.{_+_, _*_, _≤_};
 ghost use lib.ListN.{length};
-ghost use Rattle.ticket.specs.Rules.{after, firstRefusal, reading, recordsReading, recordBytes};
+ghost use Rattle.ticket.specs.Rules.{after, reading, recordsReading, recordBytes};
 ghost use Rattle.ticket.specs.Laws.Limits.{Counts, Numbers};
-ghost use Rattle.ticket.specs.Laws.Forms.{from, tested, testedAt, Within};
+ghost use Rattle.ticket.specs.Laws.Forms.{from, partAnswer, testedAt, Within};
 use crate::Answer;
 use crate::Setting;
 use residue::Residue;
@@ -15,8 +15,9 @@ pub const RECORD: usize = 8;
 // What the records of a part have to be. A value is in range where, shift added modulo p, it is below limit; outside is the
 // number of the answer for one that is not.
 struct Form {
-    kind: u32,
-    columns: u32,
+    kind: u8,
+    rows: u8,
+    columns: u8,
     shift: u32,
     limit: u32,
     outside: u32,
@@ -50,15 +51,10 @@ fn read_records(setting: Setting, ticket: &[u8]) -> Answer
     requires { ⌜ Counts setting × Numbers setting ⌝ }
     ensures { λ r. ⌜ r ≡ recordsReading setting (now (ticket .entry)) ⌝ }
 {
-    let count_a = setting.rows * setting.inner;
-    let count_b = setting.inner * setting.columns;
-    let count = setting.rows * setting.columns;
-    let start_q = count_a + count_b;
-    let start_r = start_q + count;
-    let entries = 2 * setting.bound + 1;
-    let half = Residue::power_of_two(setting.width - 1).0;
-    let range = 2 * half;
-    let end = start_r + count;
+    let start_b = setting.rows * setting.inner;
+    let start_q = start_b + setting.inner * setting.columns;
+    let start_r = start_q + setting.rows * setting.columns;
+    let end = start_r + setting.rows * setting.columns;
     if ticket.len() != RECORD * (end as usize) {
         return Answer {
             number: 4,
@@ -67,6 +63,12 @@ fn read_records(setting: Setting, ticket: &[u8]) -> Answer
             products: 0,
         };
     }
+    let rows = setting.rows as u8;
+    let inner = setting.inner as u8;
+    let columns = setting.columns as u8;
+    let entries = 2 * setting.bound + 1;
+    let half = Residue::power_of_two(setting.width - 1).0;
+    let range = 2 * half;
 
     let passed = Answer {
         number: 0,
@@ -76,51 +78,56 @@ fn read_records(setting: Setting, ticket: &[u8]) -> Answer
     };
     let form_a = Form {
         kind: 1,
-        columns: setting.inner,
+        rows,
+        columns: inner,
         shift: setting.bound,
         limit: entries,
         outside: 7,
     };
-    let read_a = read_part(passed, ticket, form_a, 0, count_a);
+    let read_a = read_part(passed, ticket, form_a, 0);
     let form_b = Form {
         kind: 2,
-        columns: setting.columns,
+        rows: inner,
+        columns,
         shift: setting.bound,
         limit: entries,
         outside: 7,
     };
-    let read_b = read_part(read_a, ticket, form_b, count_a, count_b);
+    let read_b = read_part(read_a, ticket, form_b, start_b);
     let form_q = Form {
         kind: 3,
-        columns: setting.columns,
+        rows,
+        columns,
         shift: half,
         limit: range,
         outside: 8,
     };
-    let read_q = read_part(read_b, ticket, form_q, start_q, count);
+    let read_q = read_part(read_b, ticket, form_q, start_q);
     let form_r = Form {
         kind: 4,
-        columns: setting.columns,
+        rows,
+        columns,
         shift: 0,
         limit: setting.scale,
         outside: 9,
     };
-    read_part(read_q, ticket, form_r, start_r, count)
+    read_part(read_q, ticket, form_r, start_r)
 }
 
-// The earlier answer, where it refuses; else that of the part of count records from record start on.
-fn read_part(earlier: Answer, ticket: &[u8], form: Form, start: u32, count: u32) -> Answer
-    requires { ⌜ Within (now ticket) form start count ⌝ }
-    ensures { λ r. ⌜ r ≡ after earlier (firstRefusal start count (tested (from (recordBytes * start) (now (ticket .entry))) form)) ⌝ }
+// The earlier answer, where it refuses; else that of the part from record start on.
+fn read_part(earlier: Answer, ticket: &[u8], form: Form, start: u32) -> Answer
+    requires { ⌜ Within (now ticket) form start ⌝ }
+    ensures { λ r. ⌜ r ≡ after earlier (partAnswer form start (from (recordBytes * start) (now (ticket .entry)))) ⌝ }
 {
     if earlier.number != 0 {
         return earlier;
     }
     let at = RECORD * (start as usize);
     let records = &ticket[at..];
+    let count = (form.rows as u32) * (form.columns as u32);
     let mut i: u32 = 0;
-    let mut row: u32 = 0;
-    let mut column: u32 = 0;
+    let mut row: u8 = 0;
+    let mut column: u8 = 0;
     while i < count {
         let number = record_number(records, form, i, row, column);
         if number != 0 {
@@ -148,16 +155,19 @@ fn read_part(earlier: Answer, ticket: &[u8], form: Form, start: u32, count: u32)
 }
 
 // The first of the tests that record i fails, which stands in the given row and column; 0 where it passes.
-fn record_number(records: &[u8], form: Form, i: u32, row: u32, column: u32) -> u32
+fn record_number(records: &[u8], form: Form, i: u32, row: u8, column: u8) -> u32
     requires { ⌜ recordBytes * i + recordBytes ≤ length (now records) ⌝ }
     ensures { λ r. ⌜ r ≡ testedAt (now (records .entry)) form i row column ⌝ }
 {
     let at = RECORD * (i as usize);
-    let formed = (records[at] as u32 == form.kind)
-        & (records[at + 1] == 0)
-        & (records[at + 2] as u32 == row)
-        & (records[at + 3] as u32 == column);
-    if !formed {
+    let header = word(
+        records[at],
+        records[at + 1],
+        records[at + 2],
+        records[at + 3],
+    );
+    let expected = word(form.kind, 0, row, column);
+    if header != expected {
         return 5;
     }
     let value = word(

@@ -23,8 +23,11 @@ pub struct Setting {
 impl Setting {
     // the largest sizes
     pub const MOST_ROWS: u32 = 32;
+
     pub const MOST_INNER: u32 = 64;
+
     pub const MOST_COLUMNS: u32 = 32;
+
     pub const MOST_VECTORS: u32 = 8;
 
     // The first of the tests 1, 2 and 3 that the setting fails, 0 where it passes them.

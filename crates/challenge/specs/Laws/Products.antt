@@ -25,12 +25,12 @@ unfoldable pub dotOf : List ℕ → ℕ → List ℕ → ℕ
 dotOf bytes start x = sum (length x) (terms bytes start x) % modulus
 
 pub record Inside (bytes : List ℕ) (start count : ℕ) : Type 0 where
-  pub narrow : count < 2 ^ 32
+  pub narrow : count < 2 ^ 31
   pub long : recordBytes * (start + count) ≤ length bytes
 
 pub record Sized (bytes : List ℕ) (rows columns : ℕ) : Type 0 where
   pub few : rows ≤ mostInner
-  pub narrow : columns < 2 ^ 32
+  pub narrow : columns < 2 ^ 31
   pub long : recordBytes * (rows * columns) ≤ length bytes
 
 pub record Product (bytes : List ℕ) (rows : ℕ) (x u : List ℕ) : Type 0 where

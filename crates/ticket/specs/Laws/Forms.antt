@@ -2,32 +2,37 @@
 --
 --   testedAt b F i r c   the number of record i of b by the form F, which stands in row r, column c
 --   tested b F i         the same, the row and the column from i
---   Within t F a n       t has the n records from record a on, and the form F has columns
+--   partAnswer F a b     the answer of the part that b begins with, of which the first record has the number a
+--   Within t F a         t has the part of form F from record a on, and neither is large
 --   from k t             a slice of t from byte k to the end
 --   rest, from-long      it holds what is left of the bytes
+--   header-formed        the form of a record by its first four bytes as one word
 --   tested-misformed, tested-large, tested-outside, tested-passed   the number, as the tests come out in order
 --   Scanned b F i r c    the records before i pass, and i is in row r, column c
 --   scanned-none         before the first record
 --   scanned-number       the number of record i by its row and column
+--   scanned-within       its row is one of the part's
 --   scanned-refused      record i is refused: the answer of the part
 --   scanned-next, scanned-row   record i passes too: the next one is in the same row, or at the beginning of the next
 use Prim.Native.Nat.{ℕ, _+_, _-_, _*_, _/_, _%_, _^_, _≤_, _<_}
-use native.Mathlib.Decide.{ℕ-discrete}
+use native.Mathlib.Decide.{ℕ-discrete, decLe}
+use native.Mathlib.Nat.{mul-le-mul-right}
 use native.Mathlib.Omega.{arith}
 use lib.Arith.{digits-div, digits-mod}
 use mathlib.Core.Path.{_≡_, sym, ap, _∙_}
-use mathlib.Core.Bool.{true, false}
+use mathlib.Core.Bool.{true, false, _&&_}
 use mathlib.Core.List.{List}
-use borrow.Author.Tests.{le-ltb, lt-ltb}
-use lib.Dec.{ltb}
+use borrow.Author.Tests.{le-ltb, lt-ltb, eq-eqb, ne-eqb}
+use lib.Dec.{ltb, eqb}
 use lib.IntN.{pos, _+ℤ_}
-use lib.ListN.{length, take, drop, length-drop}
+use lib.ListN.{length, getD, take, drop, length-drop}
 use lib.Seq.{take-all}
 use Rattle.residue.specs.Rules.{modulus, leastResidue}
 use Rattle.residue.specs.Laws.Modulus.{modulus-is, modulus-positive}
 use Rattle.residue.specs.Laws.Residues.{residue-of-natural}
 use Rattle.ticket.specs.Rules.{recordBytes, formed, valueAt, numberOf, refusal, firstRefusal}
 use Rattle.ticket.specs.Laws.Scans.{refusal-is}
+use Rattle.ticket.specs.declared.Answer.{Answer}
 use Rattle.ticket.specs.declared.records.Form.{Form}
 
 unfoldable pub testedAt : List ℕ → Form → ℕ → ℕ → ℕ → ℕ
@@ -37,10 +42,14 @@ testedAt bytes F i row column =
 abbrev pub tested : List ℕ → Form → ℕ → ℕ
 tested bytes F i = testedAt bytes F i (i / F .columns) (i % F .columns)
 
-pub record Within (t : List ℕ) (F : Form) (start count : ℕ) : Type 0 where
+abbrev pub partAnswer : Form → ℕ → List ℕ → Answer
+partAnswer F start bytes = firstRefusal start (F .rows * F .columns) (tested bytes F)
+
+pub record Within (t : List ℕ) (F : Form) (start : ℕ) : Type 0 where
   pub columns : 1 ≤ F .columns
-  pub long : recordBytes * (start + count) ≤ length t
-  pub small : start + count < 2 ^ 32
+  pub few : F .rows * F .columns < 2 ^ 16
+  pub long : recordBytes * (start + F .rows * F .columns) ≤ length t
+  pub small : start < 2 ^ 16
 
 abbrev pub from : ℕ → List ℕ → List ℕ
 from k t = take (length t - k) (drop k t)
@@ -51,7 +60,52 @@ rest k t = take-all (length t - k) (drop k t) (omega (arith, length-drop k t))
 pub from-long : (k : ℕ) (t : List ℕ) → length (from k t) ≡ length t - k
 from-long k t = rw (rest k t) (length-drop k t)
 
+-- the last byte of a number, and what stands before it
+last-byte : {a b x y : ℕ} → a < 256 → b < 256 → a + 256 * x ≡ b + 256 * y → (a ≡ b) × (x ≡ y)
+last-byte {a} {b} {x} {y} ha hb e = omega arith
+
+-- two words of four bytes each are equal exactly when the bytes are
+word-eqb : {a b c d e f g h : ℕ} → a < 256 → b < 256 → c < 256 → d < 256 → e < 256 → f < 256 → g < 256 → h < 256
+    → eqb (a + 256 * b + 65_536 * c + 16_777_216 * d) (e + 256 * f + 65_536 * g + 16_777_216 * h)
+    ≡ (eqb a e && eqb b f && eqb c g && eqb d h)
+word-eqb {a} {b} {c} {d} {e} {f} {g} {h} ha hb hc hd he hf hg hh =
+    elim (ℕ-discrete a e) [
+      | no n ↦ ne-eqb _ _ (λ w. n (bytes w .0)) ∙ sym (rw (ne-eqb a e n))
+      | yes x ↦
+          elim (ℕ-discrete b f) [
+            | no n ↦ ne-eqb _ _ (λ w. n (bytes w .1)) ∙ sym (rw (eq-eqb a e x, ne-eqb b f n))
+            | yes y ↦
+                elim (ℕ-discrete c g) [
+                  | no n ↦ ne-eqb _ _ (λ w. n (bytes w .2)) ∙ sym (rw (eq-eqb a e x, eq-eqb b f y, ne-eqb c g n))
+                  | yes z ↦
+                      elim (ℕ-discrete d h) [
+                        | no n ↦ ne-eqb _ _ (λ w. n (bytes w .3)) ∙ sym (rw (eq-eqb a e x, eq-eqb b f y, eq-eqb c g z, ne-eqb d h n))
+                        | yes u ↦
+                            let w : a + 256 * b + 65_536 * c + 16_777_216 * d ≡ e + 256 * f + 65_536 * g + 16_777_216 * h = omega arith in
+                            eq-eqb _ _ w ∙ sym (rw (eq-eqb a e x, eq-eqb b f y, eq-eqb c g z, eq-eqb d h u))
+                      ]
+                ]
+          ]
+    ]
+  where
+    bytes : a + 256 * b + 65_536 * c + 16_777_216 * d ≡ e + 256 * f + 65_536 * g + 16_777_216 * h
+        → (a ≡ e) × (b ≡ f) × (c ≡ g) × (d ≡ h)
+    bytes w =
+        let one = last-byte {x = b + 256 * (c + 256 * d)} {y = f + 256 * (g + 256 * h)} ha he (omega arith) in
+        let two = last-byte hb hf (one .1) in
+        let three = last-byte hc hg (two .1) in
+        (one .0, two .0, three .0, three .1)
+
 module _ (bytes : List ℕ) (F : Form) (i row column : ℕ) where
+  pub header-formed : {header expected : ℕ}
+      → header ≡ getD bytes (recordBytes * i) 0 + 256 * getD bytes (recordBytes * i + 1) 0
+      + 65_536 * getD bytes (recordBytes * i + 2) 0 + 16_777_216 * getD bytes (recordBytes * i + 3) 0
+      → expected ≡ F .kind + 256 * 0 + 65_536 * row + 16_777_216 * column
+      → ((k : ℕ) → getD bytes k 0 < 256) → F .kind < 256 → row < 256 → column < 256
+      → eqb header expected ≡ formed bytes i (F .kind) row column
+  unfolding formed
+  header-formed h e small kind r c = rw (h, e) (word-eqb (small _) (small _) (small _) (small _) kind (omega arith) r c)
+
   pub tested-misformed : formed bytes i (F .kind) row column ≡ false → 5 ≡ testedAt bytes F i row column
   unfolding testedAt numberOf
   tested-misformed e = rw e
@@ -91,6 +145,13 @@ module _ (bytes : List ℕ) (F : Form) where
         let r : i / F .columns ≡ row = ap (λ n. n / F .columns) (sym (s .place)) ∙ digits-div row (s .inside) in
         let k : i % F .columns ≡ column = ap (λ n. n % F .columns) (sym (s .place)) ∙ digits-mod row (s .inside) in
         sym (rw (r, k))
+
+    pub scanned-within : i < F .rows * F .columns → row < F .rows
+    scanned-within l =
+        elim (decLe (F .rows) row) [
+          | yes le ↦ absurd (omega (arith, mul-le-mul-right (F .columns) le, s .place))
+          | no lt ↦ omega arith
+        ]
 
     pub scanned-refused : (start count : ℕ) {number : ℕ} → i < count → number ≡ testedAt bytes F i row column → (number ≡ 0 → ⊥)
         → refusal number (start + i) ≡ firstRefusal start count (tested bytes F)

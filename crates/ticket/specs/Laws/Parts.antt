@@ -3,7 +3,8 @@
 --   in-A, in-B, in-quotients, in-remainders   the part that holds a record
 --   entry-range        an entry is in range exactly when, shifted by the bound, it is at most twice the bound
 --   Tests F P          the form F of the code makes the tests of the part P
---   tests-entries, tests-quotients, tests-remainders   it does, for each part
+--   formA G, formB G, formQuotients G h, formRemainders G   the forms of the four parts; h is half of the quotients' range
+--   tests-A, tests-B, tests-quotients, tests-remainders   they make the tests of their parts
 --   tested-part        then the number of a record is the rule's
 --   part-next          a part after the records before it
 --   parts-in-order     the parts one after the other, from the forms of the code
@@ -29,7 +30,7 @@ use Rattle.ticket.specs.declared.records.Form.{Form}
 use Rattle.ticket.specs.Rules.{Part, partA, partB, quotients, remainders, partOf, isEntry, shiftedQuotient, recordBytes, records, bytesOf, formed, valueAt, numberOf, partNumber, recordNumber, firstRefusal, after, refusal, ticketLength, recordsReading}
 use Rattle.ticket.specs.Laws.Limits.{Numbers, Half}
 use Rattle.ticket.specs.Laws.Scans.{refusal-none, refusal-cong, refusal-split}
-use Rattle.ticket.specs.Laws.Forms.{tested, testedAt, from, rest}
+use Rattle.ticket.specs.Laws.Forms.{tested, testedAt, partAnswer, from, rest}
 
 module _ (G : Setting) where
   pub in-A : (k : ℕ) → k < G .rows * G .inner → partOf G k ≡ partA G
@@ -128,28 +129,37 @@ part-next G t {F} {P} n tests inside {earlier} {answer} e a =
     let start : 0 + P .start ≡ P .start = omega arith in
     a ∙ rw (e, here) (sym (rw start at (refusal-split 0 (P .start) n (recordNumber G t))))
 
+abbrev pub formA : Setting → Form
+formA G = record { kind = 1; rows = G .rows; columns = G .inner; shift = G .bound; limit = 2 * G .bound + 1; outside = 7 }
+
+abbrev pub formB : Setting → Form
+formB G = record { kind = 2; rows = G .inner; columns = G .columns; shift = G .bound; limit = 2 * G .bound + 1; outside = 7 }
+
+abbrev pub formQuotients : Setting → ℕ → Form
+formQuotients G half = record { kind = 3; rows = G .rows; columns = G .columns; shift = half; limit = 2 * half; outside = 8 }
+
+abbrev pub formRemainders : Setting → Form
+formRemainders G = record { kind = 4; rows = G .rows; columns = G .columns; shift = 0; limit = G .scale; outside = 9 }
+
 module _ (G : Setting) where
   entries : Numbers G → (v : ℕ) → v < modulus → ltb ((v + G .bound) % modulus) (2 * G .bound + 1) ≡ isEntry (G .bound) v
   unfolding isEntry
   entries numbers v l = sym (entry-range modulus modulus-positive (G .bound) v (omega (arith, modulus-is)) l)
 
-  pub tests-A : Numbers G
-      → Tests (record { kind = 1; columns = G .inner; shift = G .bound; limit = 2 * G .bound + 1; outside = 7 }) (partA G)
+  pub tests-A : Numbers G → Tests (formA G) (partA G)
   unfolding partA
   tests-A numbers = record { kind = refl; columns = refl; outside = refl; range = entries numbers }
 
-  pub tests-B : Numbers G
-      → Tests (record { kind = 2; columns = G .columns; shift = G .bound; limit = 2 * G .bound + 1; outside = 7 }) (partB G)
+  pub tests-B : Numbers G → Tests (formB G) (partB G)
   unfolding partB
   tests-B numbers = record { kind = refl; columns = refl; outside = refl; range = entries numbers }
 
-  pub tests-quotients : {half : ℕ} → Half G half
-      → Tests (record { kind = 3; columns = G .columns; shift = half; limit = 2 * half; outside = 8 }) (quotients G)
+  pub tests-quotients : {half : ℕ} → Half G half → Tests (formQuotients G half) (quotients G)
   unfolding quotients shiftedQuotient
   tests-quotients h =
       record { kind = refl; columns = refl; outside = refl; range = λ v l. rw (← h .power, ← h .double) }
 
-  pub tests-remainders : Tests (record { kind = 4; columns = G .columns; shift = 0; limit = G .scale; outside = 9 }) (remainders G)
+  pub tests-remainders : Tests (formRemainders G) (remainders G)
   unfolding remainders
   tests-remainders =
       record {
@@ -160,10 +170,10 @@ module _ (G : Setting) where
       }
 
   pub parts-in-order : (t : List ℕ) {half : ℕ} {a b c d : Answer} → Numbers G → Half G half
-      → a ≡ after (refusal 0 0) (firstRefusal 0 (G .rows * G .inner) (tested (from (recordBytes * partA G .start) t) (record { kind = 1; columns = G .inner; shift = G .bound; limit = 2 * G .bound + 1; outside = 7 })))
-      → b ≡ after a (firstRefusal (partB G .start) (G .inner * G .columns) (tested (from (recordBytes * partB G .start) t) (record { kind = 2; columns = G .columns; shift = G .bound; limit = 2 * G .bound + 1; outside = 7 })))
-      → c ≡ after b (firstRefusal (quotients G .start) (G .rows * G .columns) (tested (from (recordBytes * quotients G .start) t) (record { kind = 3; columns = G .columns; shift = half; limit = 2 * half; outside = 8 })))
-      → d ≡ after c (firstRefusal (remainders G .start) (G .rows * G .columns) (tested (from (recordBytes * remainders G .start) t) (record { kind = 4; columns = G .columns; shift = 0; limit = G .scale; outside = 9 })))
+      → a ≡ after (refusal 0 0) (partAnswer (formA G) (partA G .start) (from (recordBytes * partA G .start) t))
+      → b ≡ after a (partAnswer (formB G) (partB G .start) (from (recordBytes * partB G .start) t))
+      → c ≡ after b (partAnswer (formQuotients G half) (quotients G .start) (from (recordBytes * quotients G .start) t))
+      → d ≡ after c (partAnswer (formRemainders G) (remainders G .start) (from (recordBytes * remainders G .start) t))
       → d ≡ firstRefusal 0 (records G) (recordNumber G t)
   unfolding partA partB quotients remainders bytesOf records
   parts-in-order t numbers h ea eb ec ed =

@@ -39,19 +39,19 @@ cast-dot : tie.Need-cast-dot
 cast-dot c = search needs
 
 dot-requires : tie.Need-dot-requires
-dot-requires c κs = search needs
+dot-requires c κs = omega (arith, c .before .before .before .before .before .before .before .before .before .pre .one, c .before .before .before .before .before .before .before .before .before .pre .long, c .before .before .before .before .before .before .before .before .before .pre .inside-claims, c .before .before .before .before .before .before .before .before .before .pre .passed .counts)
 
 cast-dot-2 : tie.Need-cast-dot-2
 cast-dot-2 c = search needs
 
 dot-requires-2 : tie.Need-dot-requires-2
-dot-requires-2 c κs = search needs
+dot-requires-2 c κs = omega (arith, c .before .before .before .before .before .before .before .before .before .before .pre .one, c .before .before .before .before .before .before .before .before .before .before .pre .long, c .before .before .before .before .before .before .before .before .before .before .pre .inside-claims, c .before .before .before .before .before .before .before .before .before .before .pre .passed .counts)
 
 cast-dot-3 : tie.Need-cast-dot-3
 cast-dot-3 c = omega (arith, c .before .before .before .before .before .before .before .before .before .before .before .pre .inside-A, c .before .before .before .before .before .before .before .before .before .before .before .pre .passed .counts)
 
 dot-requires-3 : tie.Need-dot-requires-3
-dot-requires-3 c κs = search needs
+dot-requires-3 c κs = omega (arith, c .before .before .before .before .before .before .before .before .before .before .before .pre .size, c .before .before .before .before .before .before .before .before .before .before .before .pre .long, c .before .before .before .before .before .before .before .before .before .before .before .pre .inside-A, c .before .before .before .before .before .before .before .before .before .before .before .pre .passed .counts)
 
 multiply-requires : tie.Need-multiply-requires
 multiply-requires c κs = search needs

@@ -1,4 +1,4 @@
--- Both words and 2^32 are reduced before they are put together, so that nothing overflows.
+-- Both words and 2^31 are reduced before they are put together, so that nothing overflows.
 use Prim.Native.Nat.{_^_}
 use mathlib.Core.Path.{_∙_}
 use Rattle.residue.specs.Rules.{modulus, leastResidue}
@@ -32,7 +32,7 @@ returns : tie.Need-returns
 unfolding modulus leastResidue
 returns c =
     c .reduce .ensures
-    ∙ mod-add-mul modulus (c .before .before .before .args .self .low) (2 ^ 32) (c .before .before .before .args .self .high)
+    ∙ mod-add-mul modulus (c .before .before .before .args .self .low) (2 ^ 31) (c .before .before .before .args .self .high)
 
 pub residue-spec : {M : Type 1} → statement M
 residue-spec =
