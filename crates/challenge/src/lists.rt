@@ -32,10 +32,5 @@ pub(crate) fn read_list(setting: Setting, list: &[u32]) -> Answer
         }
         k += 1;
     }
-    Answer {
-        number: 0,
-        place: 0,
-        row: 0,
-        products: 0,
-    }
+    Answer::PASSED
 }

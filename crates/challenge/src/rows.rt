@@ -16,12 +16,7 @@ pub(crate) fn check_vectors(setting: Setting, ticket: &[u8], list: &[u32]) -> An
     ensures { λ r. ⌜ r ≡ verdict setting (now (ticket .entry)) (now (list .entry)) ⌝ }
 {
     let columns = setting.columns as usize;
-    let mut answer = Answer {
-        number: 0,
-        place: 0,
-        row: 0,
-        products: 0,
-    };
+    let mut answer = Answer::PASSED;
     let mut t: u32 = 0;
     while t < setting.vectors {
         let start = (t as usize) * columns;

@@ -1,4 +1,4 @@
-// Records and parts of a ticket: tests 5 to 9.
+// Reading a ticket: the tests in order, part after part and record after record.
 ghost use mathlib.Core.Path.{_≡_};
 ghost use Prim.Native.Nat.{_+_, _*_, _≤_};
 ghost use lib.ListN.{length};
@@ -70,12 +70,6 @@ fn read_records(setting: Setting, ticket: &[u8]) -> Answer
     let half = Residue::power_of_two(setting.width - 1).0;
     let range = 2 * half;
 
-    let passed = Answer {
-        number: 0,
-        place: 0,
-        row: 0,
-        products: 0,
-    };
     let form_a = Form {
         kind: 1,
         rows,
@@ -84,7 +78,7 @@ fn read_records(setting: Setting, ticket: &[u8]) -> Answer
         limit: entries,
         outside: 7,
     };
-    let read_a = read_part(passed, ticket, form_a, 0);
+    let read_a = read_part(Answer::PASSED, ticket, form_a, 0);
     let form_b = Form {
         kind: 2,
         rows: inner,
@@ -146,12 +140,7 @@ fn read_part(earlier: Answer, ticket: &[u8], form: Form, start: u32) -> Answer
             row += 1;
         }
     }
-    Answer {
-        number: 0,
-        place: 0,
-        row: 0,
-        products: 0,
-    }
+    Answer::PASSED
 }
 
 // The first of the tests that record i fails, which stands in the given row and column; 0 where it passes.
