@@ -1,7 +1,7 @@
 /*
  * Checks a small ticket: the true one, a false one, and a damaged one.
  *
- *     cc -I include examples/check/main.c target/staticlib/libdikdumar.a
+ *     bash examples/run check
  */
 #include <stdio.h>
 
