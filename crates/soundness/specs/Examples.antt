@@ -1,4 +1,5 @@
--- The worked examples a to f and h to k of the request, under the setting K: one table that the checker computes over the rules.
+-- The marked examples a to f and h to k, under the setting K, with the bytes of record 8: one table that the checker computes over
+-- the rules.
 use Prim.Native.Nat.{ℕ, _+_, _-_, _*_, _/_, _%_}
 use mathlib.Core.Path.{_≡_, refl}
 use mathlib.Core.List.{List, [], _∷_, _++_, map}

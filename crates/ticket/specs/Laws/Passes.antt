@@ -7,19 +7,17 @@
 --   valid-A, valid-B, valid-quotient, valid-remainder   the values of each part are valid
 use Prim.Native.Nat.{ℕ, _+_, _*_, _/_, _%_, _≤_, _<_}
 use native.Mathlib.Omega.{arith}
-use native.Mathlib.Decide.{ℕ-discrete}
-use mathlib.Core.Path.{_≡_, refl, sym, ap, _∙_}
+use mathlib.Core.Path.{_≡_, refl, ap, _∙_}
 use mathlib.Core.Bool.{Bool, true, false}
-use mathlib.Core.Logic.{⊎-elim}
 use mathlib.Core.List.{List}
-use borrow.Author.Tests.{eq-eqb, ne-eqb, ltb-true}
+use borrow.Author.Tests.{eqb-true, ltb-true}
 use lib.Arith.{digits-lt}
-use lib.Dec.{ltb}
+use lib.Dec.{ltb, eqb}
 use lib.ListN.{length}
 use Rattle.residue.specs.Rules.{modulus}
 use Rattle.ticket.specs.declared.setting.Setting.{Setting}
 use Rattle.ticket.specs.Rules.{Passes, unless, reading, recordsReading, ticketLength, records, recordNumber, settingNumber, refusal, firstRefusal, Part, partA, partB, quotients, remainders, partOf, partNumber, numberOf, formed, valueAt, valueIn, bytesOf}
-use Rattle.ticket.specs.Laws.Scans.{after-passed, after-refused, zeros-or-first, refusal-is}
+use Rattle.ticket.specs.Laws.Answers.{unless-zero, after-zero, scan-zero}
 use Rattle.ticket.specs.Laws.Limits.{Counts, Numbers, Fitted, counts, passed-setting}
 use Rattle.ticket.specs.Laws.Parts.{in-A, in-B, in-quotients, in-remainders}
 
@@ -30,34 +28,19 @@ pub record Passed (G : Setting) (t : List ℕ) : Type 0 where
   pub long : length t ≡ ticketLength G
   pub passed : (k : ℕ) → k < records G → recordNumber G t k ≡ 0
 
--- a scan that refuses nothing met zeros only
-all-zero : (n : ℕ) (f : ℕ → ℕ) → firstRefusal 0 n f .number ≡ 0 → (k : ℕ) → k < n → f k ≡ 0
-all-zero n f e =
-    ⊎-elim (λ z. z)
-    (λ o. absurd (o .1 .other (sym (ap (λ a. a .number) (refusal-is 0 n (o .0) f (o .1 .within) (o .1 .before) (o .1 .other))) ∙ e)))
-    (zeros-or-first n f)
-
 pub passed-of : (G : Setting) (t : List ℕ) → Passes G t → Passed G t
 unfolding reading recordsReading
 passed-of G t e =
-    elim (ℕ-discrete (settingNumber G) 0) [
-      | no d ↦ absurd (d (sym (ap (λ a. a .number) (after-refused (refusal (settingNumber G) 0) (recordsReading G t) d)) ∙ e))
-      | yes s ↦
-          let rest : recordsReading G t .number ≡ 0 =
-          sym (ap (λ a. a .number) (after-passed (refusal (settingNumber G) 0) (recordsReading G t) s)) ∙ e in
-          elim (ℕ-discrete (length t) (ticketLength G)) [
-            | no d ↦ let four : _≡_ {A = ℕ} 4 0 = rw (ne-eqb (length t) (ticketLength G) d) at rest in absurd (omega arith)
-            | yes l ↦
-                let h = passed-setting G s in
-                record {
-                  counts = counts (h .0);
-                  numbers = h .1;
-                  fitted = h .2;
-                  long = l;
-                  passed = all-zero (records G) (recordNumber G t) (rw (eq-eqb (length t) (ticketLength G) l) at rest);
-                }
-          ]
-    ]
+    let answers = after-zero (refusal (settingNumber G) 0) (recordsReading G t) .0 e in
+    let tests = unless-zero (eqb (length t) (ticketLength G)) (refusal 4 0) (firstRefusal 0 (records G) (recordNumber G t)) (λ z. omega arith) .0 (answers .1) in
+    let setting = passed-setting G (answers .0) in
+    record {
+      counts = counts (setting .0);
+      numbers = setting .1;
+      fitted = setting .2;
+      long = eqb-true (length t) (ticketLength G) (tests .0);
+      passed = scan-zero 0 (records G) (recordNumber G t) .0 (tests .1);
+    }
 
 pub record Valid (P : Part) (v : ℕ) : Type 0 where
   pub below : v < modulus
