@@ -1,5 +1,6 @@
 -- One row and one vector, as the code works through them: the two sides of a row by the values of its records.
 --
+--   rowOf t P i x      row i of a part times the vector x, by the part's own values
 --   dot-of-part        a row of a part times a vector, by the values of its records
 --   product-by-values  the product u of B and a vector
 --   claims-by-values   row i of the claims times a vector: the quotients' sum times the scale, and the remainders'
@@ -23,14 +24,14 @@ use Rattle.residue.specs.Laws.Sums.{sum-cong, sum-mod-cong, sum-add, sum-scale}
 use Rattle.algebra.specs.Laws.IntegerSums.{residue-dot}
 use Rattle.ticket.specs.declared.setting.Setting.{Setting}
 use Rattle.ticket.specs.declared.Answer.{Answer}
-use Rattle.ticket.specs.Rules.{Part, partA, partB, quotients, remainders, recordBytes, valueAt, valueIn, entryA, entryB, quotient, remainder, claim, unless}
+use Rattle.ticket.specs.Rules.{Part, partA, partB, quotients, remainders, valueAt, valueIn, entryA, entryB, quotient, remainder, claim, unless}
 use Rattle.ticket.specs.Laws.Differences.{residue-entryA, residue-entryB, residue-quotient, residue-remainder}
 use Rattle.ticket.specs.Laws.Layout.{value-of-part}
+use Rattle.ticket.specs.Laws.Parts.{addedLength}
 use Rattle.ticket.specs.Laws.Passes.{Passed}
 use Rattle.challenge.specs.Rules.{balanced, claimSide, operandSide, productB}
 use Rattle.challenge.specs.Laws.Products.{dotOf, terms}
 
--- row i of a part times a vector, by the part's own values
 abbrev pub rowOf : List ℕ → Part → ℕ → List ℕ → ℕ
 rowOf t P i x = sum (length x) (λ j. valueIn t P i j * getD x j 0)
 
@@ -99,7 +100,7 @@ pub record RowReady (G : Setting) (t x u : List ℕ) (products i : ℕ) : Type 0
   pub passed : Passed G t
   pub inside-A : i * G .inner + G .inner ≤ G .rows * G .inner
   pub inside-claims : i * G .columns + G .columns ≤ G .rows * G .columns
-  pub long : length t ≡ recordBytes * (G .rows * G .inner + G .inner * G .columns + G .rows * G .columns + G .rows * G .columns)
+  pub long : length t ≡ addedLength G
   pub one : length x ≡ G .columns
   pub size : length u ≡ G .inner
   pub product : (k : ℕ) → k < G .inner → getD u k 0 ≡ productB G t x 0 k

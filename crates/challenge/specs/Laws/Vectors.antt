@@ -1,6 +1,7 @@
 -- All rows for one vector, and all vectors, as the code works through them. x is a list of one vector, number 0.
 --
 --   made q                 the answer while nothing is caught: number 0 and the products so far
+--   caughtAt τ i q         the answer of a caught row
 --   rowsAnswer G t x τ q   the answer of all rows for the vector x, which is number τ, after q products
 --   vectorAnswer G t x τ q the same with the products of u counted
 --   ListReady G t x        the vectors of the list x can be worked through
@@ -36,6 +37,7 @@ use Rattle.ticket.specs.declared.Answer.{Answer}
 use Rattle.ticket.specs.Rules.{mostRows, mostInner, mostColumns, mostVectors, recordBytes, valueAt, valueIn, partB, bytesOf, unless, first}
 use Rattle.ticket.specs.Laws.Forms.{from, rest, from-long}
 use Rattle.ticket.specs.Laws.First.{true-or-false, first-none, first-is, first-cong}
+use Rattle.ticket.specs.Laws.Parts.{addedLength}
 use Rattle.ticket.specs.Laws.Passes.{Passed}
 use Rattle.challenge.specs.Rules.{challengeAt, balanced, claimSide, operandSide, productB, firstRow, firstVector, vectorProducts, verdict}
 use Rattle.challenge.specs.Laws.Products.{Sized, Product, dotOf, row-inside}
@@ -60,18 +62,18 @@ vectorAnswer G t x τ products = rowsAnswer G t x τ (products + G .inner * G .c
 -- at most 8 vectors of 5,120 products, far below 2^30
 pub record VectorReady (G : Setting) (t x : List ℕ) (products : ℕ) : Type 0 where
   pub passed : Passed G t
-  pub long : length t ≡ recordBytes * (G .rows * G .inner + G .inner * G .columns + G .rows * G .columns + G .rows * G .columns)
+  pub long : length t ≡ addedLength G
   pub one : length x ≡ G .columns
   pub few : products < 2 ^ 29
 
 pub record ListReady (G : Setting) (t x : List ℕ) : Type 0 where
   pub passed : Passed G t
-  pub long : length t ≡ recordBytes * (G .rows * G .inner + G .inner * G .columns + G .rows * G .columns + G .rows * G .columns)
+  pub long : length t ≡ addedLength G
   pub size : length x ≡ G .vectors * G .columns
 
 pub record RowsReady (G : Setting) (t x u : List ℕ) (products : ℕ) : Type 0 where
   pub passed : Passed G t
-  pub long : length t ≡ recordBytes * (G .rows * G .inner + G .inner * G .columns + G .rows * G .columns + G .rows * G .columns)
+  pub long : length t ≡ addedLength G
   pub one : length x ≡ G .columns
   pub size : length u ≡ G .inner
   pub product : (k : ℕ) → k < G .inner → getD u k 0 ≡ productB G t x 0 k

@@ -8,7 +8,7 @@
 --   tested-part        then the number of a record is the rule's
 --   part-next          a part after the records before it
 --   parts-in-order     the parts one after the other, from the forms of the code
---   length-by-parts    the ticket's length, as the code adds it up
+--   addedLength G, length-by-parts   the ticket's length, as the code adds it up
 --   wrong-length, right-length   test 4
 use Prim.Native.Nat.{ℕ, suc, _+_, _-_, _*_, _/_, _%_, _≤_, _<_}
 use native.Mathlib.Nat.{mod-eq-of-lt, mod-eq-sub-mod}
@@ -129,6 +129,9 @@ part-next G t {F} {P} n tests inside {earlier} {answer} e a =
     let start : 0 + P .start ≡ P .start = omega arith in
     a ∙ rw (e, here) (sym (rw start at (refusal-split 0 (P .start) n (recordNumber G t))))
 
+abbrev pub addedLength : Setting → ℕ
+addedLength G = recordBytes * (G .rows * G .inner + G .inner * G .columns + G .rows * G .columns + G .rows * G .columns)
+
 abbrev pub formA : Setting → Form
 formA G = record { kind = 1; rows = G .rows; columns = G .inner; shift = G .bound; limit = 2 * G .bound + 1; outside = 7 }
 
@@ -186,18 +189,18 @@ module _ (G : Setting) where
       let rc = part-next G t {P = quotients G} _ (tests-quotients h) (in-quotients G) rb ec in
       part-next G t {P = remainders G} _ tests-remainders (λ i l. in-remainders G i) rc ed ∙ ap (λ n. firstRefusal 0 n (recordNumber G t)) (omega arith)
 
-  pub length-by-parts : ticketLength G ≡ recordBytes * (G .rows * G .inner + G .inner * G .columns + G .rows * G .columns + G .rows * G .columns)
+  pub length-by-parts : ticketLength G ≡ addedLength G
   unfolding ticketLength records
   length-by-parts = omega arith
 
   pub wrong-length : (t : List ℕ)
-      → (length t ≡ recordBytes * (G .rows * G .inner + G .inner * G .columns + G .rows * G .columns + G .rows * G .columns) → ⊥)
+      → (length t ≡ addedLength G → ⊥)
       → refusal 4 0 ≡ recordsReading G t
   unfolding recordsReading
   wrong-length t d = sym (rw (ne-eqb (length t) (ticketLength G) (λ e. d (e ∙ length-by-parts))))
 
   pub right-length : (t : List ℕ)
-      → length t ≡ recordBytes * (G .rows * G .inner + G .inner * G .columns + G .rows * G .columns + G .rows * G .columns)
+      → length t ≡ addedLength G
       → recordsReading G t ≡ firstRefusal 0 (records G) (recordNumber G t)
   unfolding recordsReading
   right-length t e = rw (eq-eqb (length t) (ticketLength G) (e ∙ sym length-by-parts))
