@@ -13,6 +13,18 @@ pub struct Answer {
     pub products: u32,
 }
 
+impl From<[u32; 4]> for Answer {
+    /// The answer of these numbers, in the order of the fields.
+    fn from([number, place, row, products]: [u32; 4]) -> Answer {
+        Answer {
+            number,
+            place,
+            row,
+            products,
+        }
+    }
+}
+
 /// The answer to a setting, the bytes of a ticket and a list, by the order "1,
 /// 2, 3, 4; then record after record, each by 5, 6 and its own range; then 10,
 /// 11, 12".

@@ -1,7 +1,7 @@
 //! The rules of the scope paper, followed sentence by sentence: residue
 //! arithmetic modulo p here at the root, the setting, the reading of a ticket
-//! and the challenge check in a module each, and the making of tickets, true
-//! and false, for those who test a checker.
+//! and the challenge check in a module each, and, for those who test a checker,
+//! the making of tickets, true and false, and what the marked examples share.
 //!
 //! Everything is exact integer arithmetic in `i128`. Every residue goes through
 //! one definition of the least residue. Every function takes every input,
@@ -12,6 +12,7 @@
 #![forbid(unsafe_code)]
 
 mod check;
+pub mod examples;
 pub mod make;
 mod matrix;
 mod setting;

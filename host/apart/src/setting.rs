@@ -24,7 +24,36 @@ pub struct Setting {
     pub width: u32,
 }
 
+impl From<[u32; 7]> for Setting {
+    /// The setting of these numbers, in the order of the fields: ℓ, m, n, s, α,
+    /// T, v.
+    fn from([rows, inner, columns, vectors, scale, bound, width]: [u32; 7]) -> Setting {
+        Setting {
+            rows,
+            inner,
+            columns,
+            vectors,
+            scale,
+            bound,
+            width,
+        }
+    }
+}
+
 impl Setting {
+    /// The seven numbers, in the order of the fields.
+    pub fn numbers(&self) -> [u32; 7] {
+        [
+            self.rows,
+            self.inner,
+            self.columns,
+            self.vectors,
+            self.scale,
+            self.bound,
+            self.width,
+        ]
+    }
+
     /// The number of the first of the tests 1, 2 and 3 that the setting does
     /// not pass.
     pub(crate) fn refusal(&self) -> Option<u32> {

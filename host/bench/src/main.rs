@@ -91,7 +91,7 @@ fn print_row(input: &Input, amount: usize, times: &Times, rate: impl Fn(&Time) -
 
 /// A true ticket and a list for it.
 struct Input {
-    setting: Setting,
+    setting: apart::Setting,
     ticket: Vec<u8>,
     list: Vec<u32>,
 }
@@ -99,7 +99,7 @@ struct Input {
 impl Input {
     fn new([rows, inner, columns]: [u32; 3], vectors: u32) -> Input {
         // These fit at every size.
-        let setting = Setting {
+        let setting = apart::Setting {
             rows,
             inner,
             columns,
@@ -116,15 +116,7 @@ impl Input {
                 .collect()
         };
         let ticket = apart::true_ticket(
-            &apart::Setting {
-                rows,
-                inner,
-                columns,
-                vectors,
-                scale: setting.scale,
-                bound: setting.bound,
-                width: setting.width,
-            },
+            &setting,
             &entries(rows * inner, 0),
             &entries(inner * columns, rows * inner),
         );
@@ -135,15 +127,18 @@ impl Input {
     }
 
     fn size(&self) -> String {
-        let Setting {
-            rows, inner, columns, ..
-        } = self.setting;
+        let [rows, inner, columns, ..] = self.setting.numbers();
         format!("{rows}×{inner}×{columns}")
+    }
+
+    /// The setting as both checkers take it.
+    fn library_setting(&self) -> Setting {
+        Setting::from(self.setting.numbers())
     }
 
     /// The answer of both checkers, which is the same.
     fn answer(&self, list: &[u32]) -> Answer {
-        let [library, straightforward] = CHECKERS.map(|check| check(self.setting, &self.ticket, list));
+        let [library, straightforward] = CHECKERS.map(|check| check(self.library_setting(), &self.ticket, list));
         assert_eq!(library, straightforward, "both give the same answer");
         library
     }
@@ -196,13 +191,10 @@ fn measure(input: &Input, list: &[u32]) -> Times {
 
 /// The time of one check, over `count` of them.
 fn nanoseconds(check: Checker, input: &Input, list: &[u32], count: u32) -> f64 {
+    let setting = input.library_setting();
     let start = Instant::now();
     for _ in 0..count {
-        black_box(check(
-            black_box(input.setting),
-            black_box(&input.ticket),
-            black_box(list),
-        ));
+        black_box(check(black_box(setting), black_box(&input.ticket), black_box(list)));
     }
     start.elapsed().as_nanos() as f64 / f64::from(count)
 }
@@ -211,53 +203,11 @@ fn nanoseconds(check: Checker, input: &Input, list: &[u32], count: u32) -> f64 {
 mod tests {
     use super::*;
 
-    const K: Setting = Setting {
-        rows: 2,
-        inner: 2,
-        columns: 2,
-        vectors: 1,
-        scale: 10,
-        bound: 8,
-        width: 5,
-    };
-
-    /// The answer of the implementation written apart.
-    fn apart(setting: Setting, ticket: &[u8], list: &[u32]) -> Answer {
-        let Setting {
-            rows,
-            inner,
-            columns,
-            vectors,
-            scale,
-            bound,
-            width,
-        } = setting;
-        let setting = apart::Setting {
-            rows,
-            inner,
-            columns,
-            vectors,
-            scale,
-            bound,
-            width,
-        };
-        let apart::Answer {
-            number,
-            place,
-            row,
-            products,
-        } = apart::challenge_check(&setting, ticket, list);
-        Answer {
-            number,
-            place,
-            row,
-            products,
-        }
-    }
-
-    fn assert_same(setting: Setting, ticket: &[u8], list: &[u32]) {
-        let right = apart(setting, ticket, list);
-        assert_eq!(straightforward::challenge_check(setting, ticket, list), right);
+    /// The answer is that of the implementation written apart.
+    fn assert_same(setting: apart::Setting, ticket: &[u8], list: &[u32]) {
+        let answer = straightforward::challenge_check(Setting::from(setting.numbers()), ticket, list);
+        let right = apart::challenge_check(&setting, ticket, list);
+        assert_eq!(apart::Answer::from(answer.numbers()), right);
     }
 
     /// What is timed beside the library has to follow the same rules.
@@ -285,25 +235,16 @@ mod tests {
 
     #[test]
     fn the_straightforward_check_follows_the_limits() {
-        let fields: [fn(&mut Setting) -> &mut u32; 7] = [
-            |setting| &mut setting.rows,
-            |setting| &mut setting.inner,
-            |setting| &mut setting.columns,
-            |setting| &mut setting.vectors,
-            |setting| &mut setting.scale,
-            |setting| &mut setting.bound,
-            |setting| &mut setting.width,
-        ];
         let limits = [1, 2, 8, 30, 32, 64, 32_767, 65_536];
-        for field in fields {
+        for field in 0..7 {
             for value in limits
                 .into_iter()
                 .flat_map(|limit| limit - 1..=limit + 1)
                 .chain([u32::MAX])
             {
-                let mut setting = K;
-                *field(&mut setting) = value;
-                assert_same(setting, &[], &[]);
+                let mut numbers = apart::examples::K.numbers();
+                numbers[field] = value;
+                assert_same(numbers.into(), &[], &[]);
             }
         }
     }

@@ -73,36 +73,10 @@ pub fn caught(setting: &Setting, t: usize, i: usize) -> Answer {
 pub type Checker = fn(&Case) -> Answer;
 
 pub fn library(case: &Case) -> Answer {
-    let Setting {
-        rows,
-        inner,
-        columns,
-        vectors,
-        scale,
-        bound,
-        width,
-    } = case.setting;
-    let setting = dikdumar::Setting {
-        rows,
-        inner,
-        columns,
-        vectors,
-        scale,
-        bound,
-        width,
-    };
-    let dikdumar::Answer {
-        number,
-        place,
-        row,
-        products,
-    } = dikdumar::challenge_check(setting, &case.ticket, &case.list);
-    Answer {
-        number,
-        place,
-        row,
-        products,
-    }
+    let setting = dikdumar::Setting::from(case.setting.numbers());
+    dikdumar::challenge_check(setting, &case.ticket, &case.list)
+        .numbers()
+        .into()
 }
 
 pub fn apart(case: &Case) -> Answer {
@@ -229,11 +203,11 @@ fn line(answer: &Answer) -> String {
 #[cfg(test)]
 mod tests {
     use super::*;
-    use crate::families::craft::{true_case, K};
+    use crate::families::craft::case_c;
 
     const ONE_CASE: Family = Family {
         name: "one case",
-        visit: |visit| visit(&true_case("case c", &K, &[3, -2, 5, 4], &[-1, 6, 7, -8], &[1, 2])),
+        visit: |visit| visit(&case_c()),
     };
 
     fn one_product_more(case: &Case) -> Answer {

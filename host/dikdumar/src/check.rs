@@ -33,6 +33,22 @@ pub struct Setting {
     pub width: u32,
 }
 
+impl From<[u32; 7]> for Setting {
+    /// The setting of these numbers, in the order of the fields: ℓ, m, n, s, α,
+    /// T, v.
+    fn from([rows, inner, columns, vectors, scale, bound, width]: [u32; 7]) -> Setting {
+        Setting {
+            rows,
+            inner,
+            columns,
+            vectors,
+            scale,
+            bound,
+            width,
+        }
+    }
+}
+
 /// The answer of a check.
 ///
 /// | number | meaning | place |
@@ -62,6 +78,13 @@ pub struct Answer {
     /// The products made: s(mn + ℓn + ℓm) when accepted, t(mn + ℓn + ℓm) + mn +
     /// (i + 1)(n + m) when caught in vector t, row i; 0 for every other number.
     pub products: u32,
+}
+
+impl Answer {
+    /// The four numbers, in the order of the fields.
+    pub fn numbers(&self) -> [u32; 4] {
+        [self.number, self.place, self.row, self.products]
+    }
 }
 
 /// The call of include/dikdumar.h, declared once.
@@ -100,16 +123,6 @@ pub fn challenge_check(setting: Setting, ticket: &[u8], list: &[u32]) -> Answer 
 mod tests {
     use super::*;
 
-    const SETTING: Setting = Setting {
-        rows: 2,
-        inner: 2,
-        columns: 2,
-        vectors: 1,
-        scale: 10,
-        bound: 8,
-        width: 5,
-    };
-
     /// The ticket for A = (3, -2), (5, 4) and B = (-1, 6), (7, -8) with this
     /// first quotient; -2 is the true one.
     fn ticket(first_quotient: i32) -> Vec<u8> {
@@ -125,29 +138,25 @@ mod tests {
         bytes
     }
 
-    fn answer(number: u32, place: u32, row: u32, products: u32) -> Answer {
-        Answer {
-            number,
-            place,
-            row,
-            products,
-        }
+    /// The answer under ℓ = m = n = 2, s = 1, α = 10, T = 8, v = 5.
+    fn check(ticket: &[u8], list: &[u32]) -> [u32; 4] {
+        challenge_check(Setting::from([2, 2, 2, 1, 10, 8, 5]), ticket, list).numbers()
     }
 
     #[test]
     fn a_true_ticket_is_accepted() {
-        assert_eq!(challenge_check(SETTING, &ticket(-2), &[1, 2]), answer(0, 0, 0, 12));
+        assert_eq!(check(&ticket(-2), &[1, 2]), [0, 0, 0, 12]);
     }
 
     #[test]
     fn a_false_ticket_is_caught() {
-        assert_eq!(challenge_check(SETTING, &ticket(-1), &[1, 5]), answer(12, 0, 0, 8));
+        assert_eq!(check(&ticket(-1), &[1, 5]), [12, 0, 0, 8]);
     }
 
     #[test]
     fn nothing_is_needed_behind_an_empty_slice() {
-        assert_eq!(challenge_check(SETTING, &[], &[]), answer(4, 0, 0, 0));
-        assert_eq!(challenge_check(SETTING, &[], &[1, 2]), answer(4, 0, 0, 0));
-        assert_eq!(challenge_check(SETTING, &ticket(-2), &[]), answer(10, 0, 0, 0));
+        assert_eq!(check(&[], &[]), [4, 0, 0, 0]);
+        assert_eq!(check(&[], &[1, 2]), [4, 0, 0, 0]);
+        assert_eq!(check(&ticket(-2), &[]), [10, 0, 0, 0]);
     }
 }

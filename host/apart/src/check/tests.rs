@@ -3,35 +3,10 @@
 //! way to find the answer.
 
 use super::*;
+use crate::examples::{with_claims, A, B, K};
 use crate::make::{record, residue, sums, true_ticket, Parts};
 
 const P32: u32 = 2_147_483_647;
-
-/// "Setting K: ℓ = m = n = 2, s = 1, α = 10, T = 8, v = 5."
-const K: Setting = Setting {
-    rows: 2,
-    inner: 2,
-    columns: 2,
-    vectors: 1,
-    scale: 10,
-    bound: 8,
-    width: 5,
-};
-
-/// "A = rows (3, -2), (5, 4); B = rows (-1, 6), (7, -8)."
-const A: [i64; 4] = [3, -2, 5, 4];
-const B: [i64; 4] = [-1, 6, 7, -8];
-
-/// The ticket of K with these quotients and remainders.
-fn with_claims(quotients: [i64; 4], remainders: [i64; 4]) -> Vec<u8> {
-    Parts {
-        a: A.to_vec(),
-        b: B.to_vec(),
-        quotients: quotients.to_vec(),
-        remainders: remainders.to_vec(),
-    }
-    .ticket(&K)
-}
 
 /// The true ticket with another value in one record.
 fn with_value(index: usize, value: u32) -> Vec<u8> {
@@ -41,12 +16,7 @@ fn with_value(index: usize, value: u32) -> Vec<u8> {
 }
 
 fn answer(number: u32, place: u32, row: u32, products: u32) -> Answer {
-    Answer {
-        number,
-        place,
-        row,
-        products,
-    }
+    Answer::from([number, place, row, products])
 }
 
 fn refused(number: u32, place: u32) -> Answer {

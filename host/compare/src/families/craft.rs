@@ -1,5 +1,6 @@
 //! The pieces that cases are made of.
 
+use apart::examples::{A, B, K};
 use apart::make::{sums, Parts};
 use apart::{Answer, Setting};
 
@@ -7,20 +8,6 @@ use crate::cases::{accepted, caught, Case};
 use crate::generator::Generator;
 
 pub const P: u32 = apart::P as u32;
-
-/// "Setting K: ℓ = m = n = 2, s = 1, α = 10, T = 8, v = 5", and the matrices of
-/// the marked examples.
-pub const K: Setting = Setting {
-    rows: 2,
-    inner: 2,
-    columns: 2,
-    vectors: 1,
-    scale: 10,
-    bound: 8,
-    width: 5,
-};
-pub const K_A: [i64; 4] = [3, -2, 5, 4];
-pub const K_B: [i64; 4] = [-1, 6, 7, -8];
 
 /// The largest setting, with quotients of few bits.
 pub const LARGEST: Setting = Setting {
@@ -84,49 +71,23 @@ pub struct Field {
     pub refusal: u32,
 }
 
+const fn field(of: fn(&mut Setting) -> &mut u32, least: u32, greatest: u32, refusal: u32) -> Field {
+    Field {
+        of,
+        least,
+        greatest,
+        refusal,
+    }
+}
+
 pub const FIELDS: [Field; 7] = [
-    Field {
-        of: |setting| &mut setting.rows,
-        least: 1,
-        greatest: 32,
-        refusal: 1,
-    },
-    Field {
-        of: |setting| &mut setting.inner,
-        least: 1,
-        greatest: 64,
-        refusal: 1,
-    },
-    Field {
-        of: |setting| &mut setting.columns,
-        least: 1,
-        greatest: 32,
-        refusal: 1,
-    },
-    Field {
-        of: |setting| &mut setting.vectors,
-        least: 1,
-        greatest: 8,
-        refusal: 1,
-    },
-    Field {
-        of: |setting| &mut setting.scale,
-        least: 2,
-        greatest: 65_536,
-        refusal: 2,
-    },
-    Field {
-        of: |setting| &mut setting.bound,
-        least: 1,
-        greatest: 32_767,
-        refusal: 2,
-    },
-    Field {
-        of: |setting| &mut setting.width,
-        least: 1,
-        greatest: 30,
-        refusal: 2,
-    },
+    field(|setting| &mut setting.rows, 1, 32, 1),
+    field(|setting| &mut setting.inner, 1, 64, 1),
+    field(|setting| &mut setting.columns, 1, 32, 1),
+    field(|setting| &mut setting.vectors, 1, 8, 1),
+    field(|setting| &mut setting.scale, 2, 65_536, 2),
+    field(|setting| &mut setting.bound, 1, 32_767, 2),
+    field(|setting| &mut setting.width, 1, 30, 2),
 ];
 
 /// What is left on the right of the first condition of fitting, m·T² + α - 1 ≤
@@ -150,15 +111,7 @@ pub fn fitting(generator: &mut Generator, [rows, inner, columns, vectors]: [u32;
         let bits = generator.between(1, 16);
         let scale = generator.between(2, 1 << bits) as u32;
         let widths: Vec<Setting> = (1..=30)
-            .map(|width| Setting {
-                rows,
-                inner,
-                columns,
-                vectors,
-                scale,
-                bound,
-                width,
-            })
+            .map(|width| Setting::from([rows, inner, columns, vectors, scale, bound, width]))
             .filter(fits)
             .collect();
         // The smallest width makes quotients come near its ends.
@@ -294,20 +247,15 @@ pub fn claims_case(what: &'static str, setting: &Setting, parts: &Parts, list: &
     }
 }
 
-/// The case of the true ticket for A and B.
-pub fn true_case(what: &'static str, setting: &Setting, a: &[i64], b: &[i64], list: &[u32]) -> Case {
-    Case {
-        what,
-        setting: *setting,
-        ticket: apart::true_ticket(setting, a, b),
-        list: list.to_vec(),
-        expected: Some(accepted(setting)),
-    }
-}
-
 /// The true ticket of K with X = (1, 2), case c.
 pub fn case_c() -> Case {
-    true_case("case c", &K, &K_A, &K_B, &[1, 2])
+    Case {
+        what: "case c",
+        setting: K,
+        ticket: apart::true_ticket(&K, &A, &B),
+        list: vec![1, 2],
+        expected: Some(accepted(&K)),
+    }
 }
 
 /// Puts a value into a record.

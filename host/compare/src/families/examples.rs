@@ -1,9 +1,10 @@
 //! The examples of the scope paper, with the answers that it states.
 
-use apart::make::{residue, Parts};
+use apart::examples::{with_claims, B, K};
+use apart::make::residue;
 use apart::{Answer, Setting};
 
-use super::craft::{case_c, set_value, K, K_A, K_B, P};
+use super::craft::{case_c, set_value, P};
 use crate::cases::{refused, Case, Visitor};
 
 const ACCEPTED: Answer = Answer {
@@ -24,20 +25,9 @@ const CAUGHT: Answer = Answer {
 const QUOTIENTS: [i64; 4] = [-2, 3, 2, -1];
 const REMAINDERS: [i64; 4] = [3, 4, 3, 8];
 
-/// A ticket of K with these claims.
-fn claims(quotients: [i64; 4], remainders: [i64; 4]) -> Vec<u8> {
-    Parts {
-        a: K_A.to_vec(),
-        b: K_B.to_vec(),
-        quotients: quotients.to_vec(),
-        remainders: remainders.to_vec(),
-    }
-    .ticket(&K)
-}
-
 /// The ticket of case d.
 fn first_quotient_false() -> Vec<u8> {
-    claims([-1, 3, 2, -1], REMAINDERS)
+    with_claims([-1, 3, 2, -1], REMAINDERS)
 }
 
 /// Case c with another value in one record.
@@ -100,7 +90,7 @@ pub fn table(visit: &mut Visitor) {
 pub fn marked(visit: &mut Visitor) {
     visit(&ticket(
         "cases a and b",
-        claims(QUOTIENTS, REMAINDERS),
+        with_claims(QUOTIENTS, REMAINDERS),
         [1, 2],
         ACCEPTED,
     ));
@@ -114,7 +104,7 @@ pub fn marked(visit: &mut Visitor) {
     });
     visit(&ticket("case d", first_quotient_false(), [0, 5], ACCEPTED));
     visit(&ticket("case e", first_quotient_false(), [1, 5], CAUGHT));
-    let two_false = claims([-1, 4, 2, -1], REMAINDERS);
+    let two_false = with_claims([-1, 4, 2, -1], REMAINDERS);
     visit(&ticket(
         "case f, X = (1, p - 1)",
         two_false.clone(),
@@ -124,14 +114,14 @@ pub fn marked(visit: &mut Visitor) {
     visit(&ticket("case f, X = (1, 1)", two_false, [1, 1], CAUGHT));
     visit(&ticket(
         "case h",
-        claims([-3, 3, 2, -1], [13, 4, 3, 8]),
+        with_claims([-3, 3, 2, -1], [13, 4, 3, 8]),
         [1, 2],
         refused(9, 12),
     ));
     visit(&setting("case i, T = 9", Setting { bound: 9, ..K }, 3));
     visit(&ticket(
         "case i, entry -8",
-        apart::true_ticket(&K, &[-8, -2, 5, 4], &K_B),
+        apart::true_ticket(&K, &[-8, -2, 5, 4], &B),
         [1, 2],
         ACCEPTED,
     ));

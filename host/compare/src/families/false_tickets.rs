@@ -86,12 +86,18 @@ pub fn cancelling(visit: &mut Visitor) {
     }
 }
 
-fn one_row(visit: &mut Visitor, generator: &mut Generator) {
+/// A small setting of at least two columns, and the parts of a true ticket.
+fn two_columns_or_more(generator: &mut Generator) -> (Setting, Parts) {
     let mut sizes_of_ticket = sizes_up_to(generator, SMALL);
     sizes_of_ticket[2] += 1;
     let setting = fitting(generator, sizes_of_ticket);
+    let parts = true_parts(generator, &setting);
+    (setting, parts)
+}
+
+fn one_row(visit: &mut Visitor, generator: &mut Generator) {
+    let (setting, mut parts) = two_columns_or_more(generator);
     let [rows, _, columns, _] = sizes(&setting);
-    let mut parts = true_parts(generator, &setting);
     let i = generator.below(rows);
     for j in 0..columns {
         // The last column is always false, others mostly.
@@ -111,11 +117,8 @@ fn one_row(visit: &mut Visitor, generator: &mut Generator) {
 }
 
 fn same_steps(visit: &mut Visitor, generator: &mut Generator) {
-    let mut sizes_of_ticket = sizes_up_to(generator, SMALL);
-    sizes_of_ticket[2] += 1;
-    let setting = fitting(generator, sizes_of_ticket);
+    let (setting, mut parts) = two_columns_or_more(generator);
     let [rows, _, columns, _] = sizes(&setting);
-    let mut parts = true_parts(generator, &setting);
     let up = generator.below(columns);
     let down = (up + 1 + generator.below(columns - 1)) % columns;
     let half = 1 << (setting.width - 1);

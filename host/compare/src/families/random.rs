@@ -1,7 +1,9 @@
 //! Random cases. Most are a ticket within the ranges, damaged in ways drawn at
 //! random, none, one or several.
 
-use super::craft::{claims_case, falsify, fitting, list, set_value, sizes, sizes_up_to, true_parts, FIELDS, K, P};
+use apart::examples::K;
+
+use super::craft::{claims_case, falsify, fitting, list, set_value, sizes, sizes_up_to, true_parts, FIELDS, P};
 use crate::cases::{Case, Visitor};
 use crate::generator::Generator;
 

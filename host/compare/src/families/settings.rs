@@ -1,9 +1,10 @@
 //! Settings within, at and beyond their limits, and at the edge of fitting.
 
+use apart::examples::K;
 use apart::make::{ticket_length, Parts};
 use apart::{Answer, Setting};
 
-use super::craft::{fits, slack, zeros, Field, FIELDS, K, LARGEST, P, SHAPES};
+use super::craft::{fits, slack, zeros, Field, FIELDS, LARGEST, P, SHAPES};
 use crate::cases::{accepted, refused, Case, Visitor};
 
 /// The values to try in a number of the setting.
