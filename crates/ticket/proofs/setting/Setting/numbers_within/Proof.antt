@@ -14,7 +14,7 @@ within-requires-3 c κs = search needs
 
 returns : tie.Need-returns
 unfolding numbersWithin
-returns c = cc
+returns c = rw (c .before .before .within .ensures, c .before .within2 .ensures, c .within3 .ensures)
 
 pub numbers-within-spec : {M : Type 1} → statement M
 numbers-within-spec =

@@ -17,7 +17,13 @@ within-requires-4 c κs = search needs
 
 returns : tie.Need-returns
 unfolding sizesWithin
-returns c = cc
+returns c =
+    rw (
+      c .before .before .before .within .ensures,
+      c .before .before .within2 .ensures,
+      c .before .within3 .ensures,
+      c .within4 .ensures,
+    )
 
 pub sizes-within-spec : {M : Type 1} → statement M
 sizes-within-spec =
