@@ -1,5 +1,5 @@
 // The calls for programs in C, C++ and Rust, under the names of include/dikdumar.h. Each has the contract of the call that it hands
-// its arguments to. The residue calls are those of the crate dikdumar_residue, whose source is linked here.
+// its arguments to.
 ghost use mathlib.Core.Path.{_≡_};
 ghost use Rattle.challenge.specs.Rules.{challengeCheck};
 use ticket::Answer;
