@@ -4,13 +4,17 @@
 --   first n f            the first place below n at which the test f fails, n where there is none
 --   unless c a b         b where c holds, else a
 --   refusal c k          the answer of number c at place k
+--   within l h n         n is from l to h
 --   mostRows, mostInner, mostColumns, mostVectors   the largest sizes
 --   sizesWithin G, numbersWithin G, fits G   the limits and the fit: tests 1, 2 and 3
 --   settingNumber G      the first of them that fails, 0 where none does
 --   Part                 a part of the ticket: the records of one matrix
+--   isEntry T w          the value w stands for a number from -T to T
+--   shiftedQuotient v w  the shifted quotient of the value w
 --   partA G, partB G, quotients G, remainders G   the four parts, in the order of the ticket
 --   records G            how many records a ticket has
---   ticketLength G       how many bytes
+--   recordBytes          the bytes of a record
+--   ticketLength G       how many bytes a ticket has
 --   partOf G k           the part that holds record k
 --   bytesOf t P          the bytes from the beginning of the part P
 --   valueAt b i          the value of record i of b: its last 4 bytes, little-endian
@@ -24,11 +28,12 @@
 --   recordsReading G t   the answer of the tests 4 to 9
 --   reading G t          the answer of the reading and range checks; its number is 0 where they pass
 --   Passes G t           they pass
+--   valueIn t P i j      the value in row i, column j of the part P
 --   entryA G t i k, entryB G t k j, quotient G t i j, remainder G t i j   the integers that the records stand for
 --   claim G t i j        what the claim puts for the sum: scale times quotient plus remainder
 --   exactSum G t i j     the exact sum S of row i of A times column j of B
 --   Untrue G t i j       the claim in row i, column j is untrue
---   FalseIn G t j        the ticket is false in column j
+--   FalseIn G t j        the ticket is false in column j: some row's claim there is untrue
 use Prim.Native.Nat.{ℕ, zero, suc, _+_, _-_, _*_, _/_, _%_, _^_, _<_}
 use mathlib.Core.Path.{_≡_}
 use mathlib.Core.Bool.{Bool, cond, _&&_}
@@ -98,11 +103,10 @@ pub record Part : Type 0 where
   pub range : ℕ → Bool
   pub outside : ℕ
 
--- an entry of A or B stands for a number from -T to T
 unfoldable pub isEntry : ℕ → ℕ → Bool
 isEntry T value = leb (natAbs (signedEntry modulus value)) T
 
--- the shifted quotient: below 2^v, and 2^(v - 1) above the quotient
+-- below 2^v, and 2^(v - 1) above the quotient
 unfoldable pub shiftedQuotient : ℕ → ℕ → ℕ
 shiftedQuotient v value = (value + 2 ^ (v - 1)) % modulus
 
@@ -209,7 +213,6 @@ Passes G t = reading G t .number ≡ 0
 
 -- what the records stand for
 
--- the value in row i, column j of a part
 unfoldable pub valueIn : List ℕ → Part → ℕ → ℕ → ℕ
 valueIn t P i j = valueAt (bytesOf t P) (i * P .columns + j)
 
@@ -234,6 +237,5 @@ exactSum G t i j = sumℤ (G .inner) (λ k. entryA G t i k *ℤ entryB G t k j)
 abbrev pub Untrue : Setting → List ℕ → ℕ → ℕ → Type 0
 Untrue G t i j = claim G t i j ≡ exactSum G t i j → ⊥
 
--- some row's claim in column j is untrue
 abbrev pub FalseIn : Setting → List ℕ → ℕ → Type 0
 FalseIn G t j = (j < G .columns) × ((i : ℕ) × (i < G .rows) × Untrue G t i j)
