@@ -9,6 +9,7 @@
 --   Tables      a table's rule from one computation over the table (R5)
 --   Sums        sums over a count
 --   Products    exact sums of products in two words
+--   Signed      signed machine numbers, as a cast or a sum reads and writes them
 --   Counting    at most so many things have a property
 pub mod Modulo
 pub mod Integers
@@ -19,4 +20,5 @@ pub mod Powers
 pub mod Tables
 pub mod Sums
 pub mod Products
+pub mod Signed
 pub mod Counting

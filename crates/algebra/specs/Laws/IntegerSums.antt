@@ -2,6 +2,7 @@
 --
 --   sumℤ-none            no values come to 0
 --   sumℤ-more            one more value is added at the end
+--   sumℤ-split           m values, then the n after them
 --   sumℤ-cong            equal values have equal sums
 --   sumℤ-difference      the sum of f i - g i is the sum of f less the sum of g
 --   difference-product   a difference times a natural number
@@ -13,11 +14,11 @@
 --   residue-products     and of a row times a column
 --   residue-dot          the least residue of a row times a vector of natural numbers
 use Prim.Native.Nat.{ℕ, zero, suc, _+_, _*_, _%_, _≤_, _<_}
-use native.Mathlib.Nat.{mod-add-mod}
+use native.Mathlib.Nat.{add-zero, add-suc, mod-add-mod}
 use native.Mathlib.Numerals.{add-one}
 use native.Mathlib.Omega.{arith}
 use mathlib.Core.Path.{_≡_, refl, sym, ap, _∙_}
-use lib.IntN.{ℤ, pos, negsuc, negℤ, natAbs, _+ℤ_, _-ℤ_, _*ℤ_}
+use lib.IntN.{ℤ, pos, negsuc, negℤ, natAbs, _+ℤ_, _-ℤ_, _*ℤ_, +ℤ-idr, +ℤ-assoc}
 use Rattle.residue.specs.Rules.{leastResidue, sum}
 use Rattle.residue.specs.Laws.Modulo.{mod-mul-left, mod-mul}
 use Rattle.residue.specs.Laws.Integers.{positive, negative, equal-of-parts, parts-sum, parts-difference, parts-product}
@@ -32,6 +33,13 @@ sumℤ-none f = refl
 pub sumℤ-more : (n : ℕ) (f : ℕ → ℤ) → sumℤ (n + 1) f ≡ sumℤ n f +ℤ f n
 unfolding sumℤ
 sumℤ-more n f = rw add-one
+
+pub sumℤ-split : (m n : ℕ) (f : ℕ → ℤ) → sumℤ (m + n) f ≡ sumℤ m f +ℤ sumℤ n (λ i. f (m + i))
+unfolding sumℤ
+sumℤ-split m zero f = ap (λ k. sumℤ k f) (add-zero m) ∙ sym (+ℤ-idr (sumℤ m f))
+sumℤ-split m (suc n) f =
+    ap (λ k. sumℤ k f) (add-suc m n) ∙ ap (λ z. z +ℤ f (m + n)) (sumℤ-split m n f)
+    ∙ +ℤ-assoc (sumℤ m f) (sumℤ n (λ i. f (m + i))) (f (m + n))
 
 pub sumℤ-cong : (n : ℕ) (f g : ℕ → ℤ) → ((i : ℕ) → i < n → f i ≡ g i) → sumℤ n f ≡ sumℤ n g
 unfolding sumℤ

@@ -40,7 +40,8 @@ use Rattle.ticket.specs.Laws.First.{true-or-false, first-none, first-is, first-
 use Rattle.ticket.specs.Laws.Parts.{addedLength}
 use Rattle.ticket.specs.Laws.Passes.{Passed}
 use Rattle.challenge.specs.Rules.{challengeAt, balanced, claimSide, operandSide, productB, firstRow, firstVector, vectorProducts, verdict}
-use Rattle.challenge.specs.Laws.Products.{Sized, Product, dotOf, row-inside}
+use Rattle.ticket.specs.Laws.Positions.{row-inside}
+use Rattle.challenge.specs.Laws.Products.{Sized, Product, dotOf}
 use Rattle.challenge.specs.Laws.Rows.{RowReady, rowAnswer, product-by-values}
 
 abbrev pub made : ℕ → Answer
@@ -99,7 +100,7 @@ module _ {G : Setting} {t x : List ℕ} {products : ℕ} (ready : VectorReady G 
         passed = ready .passed;
         long = ready .long;
         one = ready .one;
-        size = length-take-le (G .inner) u (omega (arith, p .size, ready .passed .counts .sizes));
+        size = length-take-le (G .inner) u (omega (arith, p .long, ready .passed .counts .sizes));
         product = λ k l.
             getD-take (G .inner) u k 0 l ∙ p .each k l
             ∙ rw (rest (recordBytes * (G .rows * G .inner)) t, ready .one)
@@ -198,7 +199,7 @@ module _ (G : Setting) (t x v : List ℕ) (τ : ℕ) (same : (j : ℕ) → j < G
       (caughtAt τ (firstRow G t x τ) (products + (firstRow G t x τ + 1) * (G .columns + G .inner)))
       (made (products + G .rows * (G .columns + G .inner)))
   unfolding rowsAnswer firstRow
-  vector-answer products = rw (first-cong (G .rows) (balanced G t v 0) (balanced G t x τ) balanced-vector)
+  vector-answer products = rw (first-cong (G .rows) (balanced G t v 0) (balanced G t x τ) (λ i l. balanced-vector i))
 
   module _ (products : ℕ) {a : Answer} (answer : a ≡ vectorAnswer G t v τ products) where
     pub vector-passed : a .number ≡ 0

@@ -25,10 +25,10 @@ use lib.ListN.{length, getD}
 use Rattle.residue.specs.Rules.{modulus}
 use Rattle.ticket.specs.declared.setting.Setting.{Setting}
 use Rattle.ticket.specs.declared.Answer.{Answer}
-use Rattle.ticket.specs.Rules.{refusal, reading, records, quotients, remainders, Passes}
+use Rattle.ticket.specs.Rules.{refusal, reading, Passes}
 use Rattle.ticket.specs.Laws.First.{first-none, first-is, first-before, FirstFailure, holds-or-first}
 use Rattle.ticket.specs.Laws.Scans.{refusal-none, refusal-is, after-passed, after-refused, zeros-or-first}
-use Rattle.ticket.specs.Laws.Refusals.{Refused, sizes-outside, numbers-outside, unfit, wrong-length, misformed, large, entry-beyond, quotient-beyond, remainder-beyond, passed-reading, passed-or-refused, refused-reading, refused-number}
+use Rattle.ticket.specs.Laws.Refusals.{Refused, passed-reading, passed-or-refused, refused-reading, refused-number, ReadingRow, refused-in-table}
 use Rattle.challenge.specs.Rules.{listNumber, listReading, WellFormed, balanced, firstRow, firstVector, accepted, caught, verdict, challengeCheck, Accepted}
 
 abbrev pub answer : ℕ → ℕ → ℕ → ℕ → Answer
@@ -36,11 +36,7 @@ answer number place row products = record { number = number; place = place; row 
 
 pub data TableRow (G : Setting) : Answer → Type 0 where
   accepted-row : TableRow G (answer 0 0 0 (G .vectors * (G .inner * G .columns + G .rows * G .columns + G .rows * G .inner)))
-  setting-or-length-row : (c : ℕ) → 1 ≤ c → c ≤ 4 → TableRow G (answer c 0 0 0)
-  record-row : (c k : ℕ) → 5 ≤ c → c ≤ 6 → k < records G → TableRow G (answer c k 0 0)
-  entry-row : (k : ℕ) → k < quotients G .start → TableRow G (answer 7 k 0 0)
-  quotient-row : (k : ℕ) → quotients G .start ≤ k → k < remainders G .start → TableRow G (answer 8 k 0 0)
-  remainder-row : (k : ℕ) → remainders G .start ≤ k → k < records G → TableRow G (answer 9 k 0 0)
+  reading-row : {a : Answer} → ReadingRow G a → TableRow G a
   list-length-row : TableRow G (answer 10 0 0 0)
   list-number-row : (k : ℕ) → k < G .vectors * G .columns → TableRow G (answer 11 k 0 0)
   caught-row : (τ i : ℕ) → τ < G .vectors → i < G .rows
@@ -207,19 +203,8 @@ module _ (G : Setting) (t x : List ℕ) where
   pub caught-exactly : (τ i : ℕ) → (challengeCheck G t x ≡ caught G τ i) ↔ Caught G t x τ i
   caught-exactly τ i = (λ e. caught-of (answer-exactly (caught G τ i) .0 e) refl, λ c. answer-of (first-unbalanced c))
 
-  refused-in-table : {c k : ℕ} → Refused G t c k → TableRow G (refusal c k)
-  refused-in-table (sizes-outside e) = setting-or-length-row 1 (omega arith) (omega arith)
-  refused-in-table (numbers-outside a e) = setting-or-length-row 2 (omega arith) (omega arith)
-  refused-in-table (unfit a b e) = setting-or-length-row 3 (omega arith) (omega arith)
-  refused-in-table (wrong-length a b c d) = setting-or-length-row 4 (omega arith) (omega arith)
-  refused-in-table (misformed {k} p l e) = record-row 5 k (omega arith) (omega arith) l
-  refused-in-table (large {k} p l f h) = record-row 6 k (omega arith) (omega arith) l
-  refused-in-table (entry-beyond {k} p f b l h) = entry-row k l
-  refused-in-table (quotient-beyond {k} p f b l m h) = quotient-row k l m
-  refused-in-table (remainder-beyond {k} p f b l m h) = remainder-row k l m
-
   row-of : {a : Answer} → Answered G t x a → TableRow G a
-  row-of (refused r) = refused-in-table r
+  row-of (refused r) = reading-row (refused-in-table r)
   row-of (list-length p d) = list-length-row
   row-of (list-number {k} p e l h m) = list-number-row k l
   row-of (first-unbalanced {τ} {i} c) = caught-row τ i (c .vector-within) (c .row-within)

@@ -3,7 +3,7 @@
 --   true-or-false  a test holds or fails
 --   first-none     where the test holds everywhere below n, there is no such place
 --   first-is       the place is i, where the test fails there and holds before it
---   first-cong     equal tests have the same first place
+--   first-cong     tests that are equal below n have the same first place
 --   first-within   it is at most n
 --   first-before   before it the test holds
 --   first-at       at it the test fails, where it is below n
@@ -72,7 +72,8 @@ holds-or-first n f =
           inr (first n f, record { within = l; before = λ k. first-before n k f; fails = first-at n f l })
     ]
 
-pub first-cong : (n : ℕ) (f g : ℕ → Bool) → ((k : ℕ) → f k ≡ g k) → first n f ≡ first n g
+pub first-cong : (n : ℕ) (f g : ℕ → Bool) → ((k : ℕ) → k < n → f k ≡ g k) → first n f ≡ first n g
 unfolding first
 first-cong zero f g h = refl
-first-cong (suc n) f g h = rw (h 0, first-cong n (λ k. f (suc k)) (λ k. g (suc k)) (λ k. h (suc k)))
+first-cong (suc n) f g h =
+    rw (h 0 (omega arith), first-cong n (λ k. f (suc k)) (λ k. g (suc k)) (λ k l. h (suc k) (omega arith)))

@@ -11,14 +11,11 @@
 --   Scanned b F i r c    the records before i pass, and i is in row r, column c
 --   scanned-none         before the first record
 --   scanned-number       the number of record i by its row and column
---   scanned-within       its row is one of the part's
 --   scanned-refused      record i is refused: the answer of the part
 --   scanned-next, scanned-row   record i passes too: the next one is in the same row, or at the beginning of the next
 use Prim.Native.Nat.{ℕ, _+_, _-_, _*_, _/_, _%_, _^_, _≤_, _<_}
-use native.Mathlib.Decide.{ℕ-discrete, decLe}
-use native.Mathlib.Nat.{mul-le-mul-right}
+use native.Mathlib.Decide.{ℕ-discrete}
 use native.Mathlib.Omega.{arith}
-use lib.Arith.{digits-div, digits-mod}
 use mathlib.Core.Path.{_≡_, sym, ap, _∙_}
 use mathlib.Core.Bool.{true, false, _&&_}
 use mathlib.Core.List.{List}
@@ -31,6 +28,7 @@ use Rattle.residue.specs.Rules.{modulus, leastResidue}
 use Rattle.residue.specs.Laws.Modulus.{modulus-is, modulus-positive}
 use Rattle.residue.specs.Laws.Residues.{residue-of-natural}
 use Rattle.ticket.specs.Rules.{recordBytes, formed, valueAt, numberOf, refusal, firstRefusal}
+use Rattle.ticket.specs.Laws.Positions.{Position, position-none, row-of, column-of, position-next, position-row}
 use Rattle.ticket.specs.Laws.Scans.{refusal-is}
 use Rattle.ticket.specs.declared.Answer.{Answer}
 use Rattle.ticket.specs.declared.records.Form.{Form}
@@ -130,28 +128,16 @@ module _ (bytes : List ℕ) (F : Form) (i row column : ℕ) where
           rw (form, ← value-is, lt-ltb value modulus (rw modulus-is small), ← shifted-by, lt-ltb shifted (F .limit) h)
 
 pub record Scanned (bytes : List ℕ) (F : Form) (i row column : ℕ) : Type 0 where
-  pub place : row * F .columns + column ≡ i
-  pub inside : column < F .columns
-  pub row-small : row ≤ i
+  pub at : Position (F .columns) i row column
   pub before : (k : ℕ) → k < i → tested bytes F k ≡ 0
 
 module _ (bytes : List ℕ) (F : Form) where
   pub scanned-none : 1 ≤ F .columns → Scanned bytes F 0 0 0
-  scanned-none h = record { place = omega arith; inside = omega arith; row-small = omega arith; before = λ k l. omega arith }
+  scanned-none h = record { at = position-none h; before = λ k l. omega arith }
 
   module _ {i row column : ℕ} (s : Scanned bytes F i row column) where
     pub scanned-number : testedAt bytes F i row column ≡ tested bytes F i
-    scanned-number =
-        let r : i / F .columns ≡ row = ap (λ n. n / F .columns) (sym (s .place)) ∙ digits-div row (s .inside) in
-        let k : i % F .columns ≡ column = ap (λ n. n % F .columns) (sym (s .place)) ∙ digits-mod row (s .inside) in
-        sym (rw (r, k))
-
-    pub scanned-within : i < F .rows * F .columns → row < F .rows
-    scanned-within l =
-        elim (decLe (F .rows) row) [
-          | yes le ↦ absurd (omega (arith, mul-le-mul-right (F .columns) le, s .place))
-          | no lt ↦ omega arith
-        ]
+    scanned-number = sym (rw (row-of (s .at), column-of (s .at)))
 
     pub scanned-refused : (start count : ℕ) {number : ℕ} → i < count → number ≡ testedAt bytes F i row column → (number ≡ 0 → ⊥)
         → refusal number (start + i) ≡ firstRefusal start count (tested bytes F)
@@ -168,9 +154,7 @@ module _ (bytes : List ℕ) (F : Form) where
           ]
 
       pub scanned-next : (column + 1 ≡ F .columns → ⊥) → Scanned bytes F (i + 1) row (column + 1)
-      scanned-next d =
-          record { place = omega arith; inside = omega arith; row-small = omega arith; before = before-next }
+      scanned-next d = record { at = position-next (s .at) d; before = before-next }
 
       pub scanned-row : column + 1 ≡ F .columns → Scanned bytes F (i + 1) (row + 1) 0
-      scanned-row e =
-          record { place = omega (arith, s .place); inside = omega arith; row-small = omega arith; before = before-next }
+      scanned-row e = record { at = position-row (s .at) e; before = before-next }

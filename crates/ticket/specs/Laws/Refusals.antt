@@ -14,6 +14,8 @@
 --   reading-zero-exactly   reading answers 0 exactly when all tests pass
 --   refusal-exactly        reading refuses with a number and a place exactly under their condition
 --   reading-form           row and products of reading's answer are 0
+--   ReadingRow G a         the answer a is a row of the published table with a number from 1 to 9, within its bounds
+--   refused-in-table       every refusal is one
 use Prim.Native.Nat.{ℕ, zero, suc, _+_, _-_, _*_, _/_, _%_, _^_, _≤_, _<_}
 use native.Mathlib.Decide.{decLe, ℕ-discrete}
 use native.Mathlib.Omega.{arith}
@@ -28,6 +30,7 @@ use lib.IntN.{natAbs}
 use lib.ListN.{length}
 use Rattle.residue.specs.Rules.{modulus, signedEntry}
 use Rattle.ticket.specs.declared.setting.Setting.{Setting}
+use Rattle.ticket.specs.declared.Answer.{Answer}
 use Rattle.ticket.specs.Rules.{refusal, sizesWithin, numbersWithin, fits, settingNumber, partA, partB, quotients, remainders, partOf, isEntry, shiftedQuotient, records, ticketLength, bytesOf, valueAt, formed, numberOf, partNumber, recordNumber, firstRefusal, recordsReading, reading}
 use Rattle.ticket.specs.Laws.First.{true-or-false}
 use Rattle.ticket.specs.Laws.Scans.{refusal-none, refusal-is, after-passed, after-refused}
@@ -293,3 +296,21 @@ module _ (G : Setting) (t : List ℕ) where
       (λ p. rw (passed-reading p))
       (λ x. rw (refused-reading (x .2)))
       passed-or-refused
+
+pub data ReadingRow (G : Setting) : Answer → Type 0 where
+  setting-or-length-row : (c : ℕ) → 1 ≤ c → c ≤ 4 → ReadingRow G (refusal c 0)
+  record-row : (c k : ℕ) → 5 ≤ c → c ≤ 6 → k < records G → ReadingRow G (refusal c k)
+  entry-row : (k : ℕ) → k < quotients G .start → ReadingRow G (refusal 7 k)
+  quotient-row : (k : ℕ) → quotients G .start ≤ k → k < remainders G .start → ReadingRow G (refusal 8 k)
+  remainder-row : (k : ℕ) → remainders G .start ≤ k → k < records G → ReadingRow G (refusal 9 k)
+
+pub refused-in-table : {G : Setting} {t : List ℕ} {c k : ℕ} → Refused G t c k → ReadingRow G (refusal c k)
+refused-in-table (sizes-outside e) = setting-or-length-row 1 (omega arith) (omega arith)
+refused-in-table (numbers-outside a e) = setting-or-length-row 2 (omega arith) (omega arith)
+refused-in-table (unfit a b e) = setting-or-length-row 3 (omega arith) (omega arith)
+refused-in-table (wrong-length a b c d) = setting-or-length-row 4 (omega arith) (omega arith)
+refused-in-table (misformed {k} p l e) = record-row 5 k (omega arith) (omega arith) l
+refused-in-table (large {k} p l f h) = record-row 6 k (omega arith) (omega arith) l
+refused-in-table (entry-beyond {k} p f b l h) = entry-row k l
+refused-in-table (quotient-beyond {k} p f b l m h) = quotient-row k l m
+refused-in-table (remainder-beyond {k} p f b l m h) = remainder-row k l m

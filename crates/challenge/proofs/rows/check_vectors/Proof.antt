@@ -1,6 +1,6 @@
 use Prim.Native.Nat.{_-_}
 use native.Mathlib.Omega.{arith}
-use Rattle.challenge.specs.Laws.Products.{row-inside}
+use Rattle.ticket.specs.Laws.Positions.{row-inside}
 use Rattle.challenge.specs.Laws.Vectors.{VectorsPassed, vector-same, vector-ready, vectors-none, vectors-next, vectors-caught, vectors-ended}
 use Rattle.challenge.proofs.rows.check_vectors.Statement.{statement}
 use Rattle.challenge.proofs.rows.check_vectors.Tie as tie

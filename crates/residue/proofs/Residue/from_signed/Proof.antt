@@ -6,7 +6,7 @@ use mir.Syntax.{w32}
 use mir.Val.{SFits}
 use Rattle.residue.specs.Rules.{modulus}
 use Rattle.residue.specs.Laws.Modulus.{modulus-positive}
-use Rattle.residue.proofs.Signed.{widened, lifted-fits, lifted-natural, lifted-residue}
+use Rattle.residue.specs.Laws.Signed.{widened, lifted-fits, lifted-natural, lifted-residue}
 use borrow.Author.Needs.{needs}
 use Rattle.residue.proofs.Residue.from_signed.Statement.{statement}
 use Rattle.residue.proofs.Residue.from_signed.Tie as tie
@@ -15,7 +15,7 @@ fits : (c : tie.After-struct-told) → SFits w32 (c .before .before .args .entry
 fits c = search needs
 
 cast-lifted : tie.Need-cast-lifted
-cast-lifted c = widened (c .before .before .args .entry .0) (fits c)
+cast-lifted c = widened tt (fits c)
 
 cast-lifted-2 : tie.Need-cast-lifted-2
 cast-lifted-2 c = search needs

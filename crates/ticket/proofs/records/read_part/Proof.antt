@@ -2,7 +2,8 @@ use Prim.Native.Nat.{_-_, _*_, _≤_}
 use native.Mathlib.Omega.{arith}
 use mathlib.Core.Path.{sym, _∙_}
 use Rattle.ticket.specs.Rules.{recordBytes}
-use Rattle.ticket.specs.Laws.Forms.{from-long, Scanned, scanned-none, scanned-within, scanned-refused, scanned-next, scanned-row}
+use Rattle.ticket.specs.Laws.Forms.{from-long, Scanned, scanned-none, scanned-refused, scanned-next, scanned-row}
+use Rattle.ticket.specs.Laws.Positions.{position-within}
 use Rattle.ticket.specs.Laws.Scans.{refusal-none, after-passed, after-refused}
 use Rattle.ticket.proofs.records.read_part.Statement.{statement}
 use Rattle.ticket.proofs.records.read_part.Tie as tie
@@ -58,7 +59,7 @@ add-column : tie.Need-add-column Inv-loop μ-loop
 add-column c = omega arith
 
 add-row : tie.Need-add-row Inv-loop μ-loop
-add-row c = omega (arith, scanned-within _ _ (c .before .before .before .before .before .loop .inv .1) (c .before .before .before .before .loop-test .taken))
+add-row c = omega (arith, position-within (c .before .before .before .before .before .loop .inv .1 .at) (c .before .before .before .before .loop-test .taken))
 
 loop-less : tie.Need-loop-less Inv-loop μ-loop
 loop-less c = omega arith

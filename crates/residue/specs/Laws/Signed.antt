@@ -1,19 +1,22 @@
 -- Signed machine numbers. A cast or a sum reads a number from its bits and writes it back, which leaves a number that fits as it is.
 --
---   widened          a 32-bit number fits 64 bits
+--   widened          a number fits a wider width, after it was written to its bits and read back
 --   wideSum z k      the 32-bit number z, as it is read after the cast to 64 bits, and k added to it
 --   lifted z k       that sum, as it is read from its bits
 --   lifted-fits      the sum fits, where k is from 2^31 to 2^62
 --   lifted-natural   it is then not negative, and fits as an unsigned number
 --   lifted-residue   its least residue is that of z, where k is a multiple of p
+--   natural-is, natural-cast   a number that is not negative, read back, and cast to 32 bits without sign
+--   small-fits, small-fits-wide   a number of at most 15 bits fits 16 and 32 bits
+--   narrowed-is, narrowed-fits   read back from 32 bits, it is itself, and fits 16 bits
 use Prim.Native.Nat.{ℕ, suc, _+_, _-_, _*_, _^_, _≤_, _<_}
 use native.Mathlib.Omega.{arith}
 use mathlib.Core.Path.{_≡_, ap, subst⁻¹, _∙_}
-use lib.Dec.{T}
+use lib.Dec.{T, leb}
 use lib.IntN.{ℤ, pos, negsuc, natAbs, _+ℤ_}
 use lib.Signed.{mag, nonNeg}
-use mir.Syntax.{w32, w64}
-use mir.Val.{Fits, SFits, toZ, ofZ}
+use mir.Syntax.{Width, w16, w32, w64}
+use mir.Val.{Fits, SFits, toZ, ofZ, hbits}
 use mir.Facts.{sfits-widen, toZ-ofZ}
 use Rattle.residue.specs.Rules.{leastResidue}
 use Rattle.residue.specs.Laws.Integers.{positive, negative, equal-of-parts, parts-sum}
@@ -30,14 +33,14 @@ parts-mag : (z : ℤ) → (positive z ≤ mag z) × (negative z ≤ suc (mag z))
 parts-mag (pos n) = omega arith
 parts-mag (negsuc n) = omega arith
 
-module _ (z : ℤ) (fits : SFits w32 z) where
-  pub widened : SFits w64 (toZ w32 (ofZ w32 z))
-  widened = subst⁻¹ (SFits w64) (toZ-ofZ fits) (sfits-widen tt fits)
+pub widened : {narrow wide : Width} {z : ℤ} → T (leb (hbits narrow) (hbits wide)) → SFits narrow z → SFits wide (toZ narrow (ofZ narrow z))
+widened {wide = wide} wider fits = subst⁻¹ (SFits wide) (toZ-ofZ fits) (sfits-widen wider fits)
 
+module _ (z : ℤ) (fits : SFits w32 z) where
   module _ (k : ℕ) (low : 2 ^ 31 ≤ k) (high : k ≤ 2 ^ 62) where
     sum-is : wideSum z k ≡ pos (positive z + k - negative z)
     sum-is =
-        ap (λ y. y +ℤ pos k) (toZ-ofZ widened ∙ toZ-ofZ fits)
+        ap (λ y. y +ℤ pos k) (toZ-ofZ (widened {wide = w64} tt fits) ∙ toZ-ofZ fits)
         ∙ equal-of-parts (z +ℤ pos k) (pos (positive z + k - negative z))
         (omega (arith, parts-sum z (pos k), parts-mag z, fits .sfits))
 
@@ -56,3 +59,27 @@ module _ (z : ℤ) (fits : SFits w32 z) where
     lifted-residue p b above e =
         ap (λ y. leastResidue p (pos (natAbs y))) lifted-is
         ∙ residue-shift p above (pos (positive z + k - negative z)) z 0 b (omega (arith, parts-mag z, fits .sfits))
+
+-- a number that is not negative, read back and cast to 32 bits without sign
+
+module _ {w : Width} {y : ℤ} {n : ℕ} (fits : SFits w y) (is : y ≡ pos n) where
+  pub natural-is : natAbs (toZ w (ofZ w y)) ≡ n
+  natural-is = ap natAbs (toZ-ofZ fits ∙ is)
+
+  pub natural-cast : n < 2 ^ 32 → T (nonNeg (toZ w (ofZ w y))) × Fits w32 (natAbs (toZ w (ofZ w y)))
+  natural-cast small = subst⁻¹ (λ z. T (nonNeg z) × Fits w32 (natAbs z)) (toZ-ofZ fits ∙ is) (tt, record { fits = small })
+
+-- a number of at most 15 bits, read back and cast to 16 bits
+
+pub small-fits : (z : ℤ) → natAbs z < 2 ^ 15 → SFits w16 z
+small-fits (pos n) small = record { sfits = omega arith }
+small-fits (negsuc n) small = record { sfits = omega arith }
+
+pub small-fits-wide : (z : ℤ) → natAbs z < 2 ^ 15 → SFits w32 z
+small-fits-wide z small = sfits-widen tt (small-fits z small)
+
+pub narrowed-is : (z : ℤ) → natAbs z < 2 ^ 15 → toZ w32 (ofZ w32 z) ≡ z
+narrowed-is z small = toZ-ofZ (small-fits-wide z small)
+
+pub narrowed-fits : (z : ℤ) → natAbs z < 2 ^ 15 → SFits w16 (toZ w32 (ofZ w32 z))
+narrowed-fits z small = subst⁻¹ (SFits w16) (narrowed-is z small) (small-fits z small)

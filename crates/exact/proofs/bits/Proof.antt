@@ -1,0 +1,38 @@
+-- 2^32 is added in 64 bits, where every signed 32-bit number has room.
+use Prim.Native.Nat.{_*_, _^_, _%_, _<_}
+use native.Mathlib.Omega.{arith}
+use mathlib.Core.Path.{refl, sym, _∙_}
+use lib.Dec.{lit≤}
+use mir.Syntax.{w32}
+use mir.Val.{SFits}
+use borrow.Author.Needs.{needs}
+use Rattle.residue.specs.Laws.Residues.{residue-of-natural}
+use Rattle.residue.specs.Laws.Signed.{widened, lifted-fits, lifted-natural, lifted-residue}
+use Rattle.exact.proofs.bits.Statement.{statement}
+use Rattle.exact.proofs.bits.Tie as tie
+
+fits : (c : tie.Start) → SFits w32 (c .args .n)
+fits c = search needs
+
+cast-lifted : tie.Need-cast-lifted
+cast-lifted c = widened tt (fits c)
+
+cast-lifted-2 : tie.Need-cast-lifted-2
+cast-lifted-2 c = search needs
+
+add-lifted : tie.Need-add-lifted
+add-lifted c = lifted-fits (c .args .n) (fits c) _ (lit≤ tt) (lit≤ tt)
+
+cast-low : tie.Need-cast-low
+cast-low c = lifted-natural (c .args .n) (fits c) _ (lit≤ tt) (lit≤ tt)
+
+cast-result : tie.Need-cast-result
+cast-result c = search needs
+
+returns : tie.Need-returns
+returns c =
+    sym (residue-of-natural (2 ^ 32) (omega arith) _)
+    ∙ lifted-residue (c .args .n) (fits c) (2 ^ 32) (lit≤ tt) (lit≤ tt) (2 ^ 32) 1 (omega arith) refl
+
+pub bits-spec : {M : Type 1} → statement M
+bits-spec = tie.close (tie.spec cast-lifted cast-lifted-2 add-lifted cast-low cast-result returns)

@@ -1,0 +1,100 @@
+use Prim.Native.Nat.{_+_, _-_, _^_, _≤_}
+use native.Mathlib.Omega.{arith}
+use mathlib.Core.Path.{_≡_, ap, _∙_}
+use borrow.Author.Needs.{needs}
+use lib.IntN.{pos}
+use lib.ListN.{getD}
+use mir.Syntax.{w16}
+use mir.Val.{SFits}
+use Rattle.residue.specs.Rules.{leastResidue}
+use Rattle.residue.specs.Laws.Signed.{widened}
+use Rattle.exact.specs.Rules.{productSum}
+use Rattle.exact.specs.Laws.Products.{product-fits, product-residue, sum-none, sum-more}
+use Rattle.exact.proofs.products.Statement.{statement}
+use Rattle.exact.proofs.products.Tie as tie
+
+abbrev Inv-loop : tie.InvT-loop
+Inv-loop x y start count sum₀ k₀ sum k = (k ≤ count) × (sum ≡ leastResidue (2 ^ 32) (productSum start k x y))
+
+abbrev μ-loop : tie.MeasureT-loop
+μ-loop x y start count sum₀ k₀ sum k = count - k
+
+fits-x : (c : tie.After-product Inv-loop μ-loop)
+    → SFits w16 (getD (c .before .before .before .args .x .now) (c .before .before .before .args .start + c .before .before .loop .k) (pos 0))
+fits-x c = record { sfits = c .product .given }
+
+fits-y : (c : tie.After-product2 Inv-loop μ-loop)
+    → SFits w16 (getD (c .before .before .before .before .args .y .now) (c .before .before .before .before .args .start + c .before .before .before .loop .k) (pos 0))
+fits-y c = record { sfits = c .product2 .given }
+
+loop-holds : tie.Need-loop-holds Inv-loop μ-loop
+loop-holds c = (omega arith, sum-none _ _ _)
+
+add-at : tie.Need-add-at Inv-loop μ-loop
+add-at c = omega arith
+
+mul-product : tie.Need-mul-product Inv-loop μ-loop
+mul-product c = omega arith
+
+shared-slice-copy-out-product : tie.Need-shared-slice-copy-out-product Inv-loop μ-loop
+shared-slice-copy-out-product c = omega arith
+
+cast-product : tie.Need-cast-product Inv-loop μ-loop
+cast-product c = widened tt (fits-x c)
+
+mul-product-2 : tie.Need-mul-product-2 Inv-loop μ-loop
+mul-product-2 c = omega arith
+
+shared-slice-copy-out-product-2 : tie.Need-shared-slice-copy-out-product-2 Inv-loop μ-loop
+shared-slice-copy-out-product-2 c = omega arith
+
+cast-product-2 : tie.Need-cast-product-2 Inv-loop μ-loop
+cast-product-2 c = widened tt (fits-y c)
+
+mul-product-3 : tie.Need-mul-product-3 Inv-loop μ-loop
+mul-product-3 c = product-fits (fits-x (c .before)) (fits-y c)
+
+bits-requires : tie.Need-bits-requires Inv-loop μ-loop
+bits-requires c κs = search needs
+
+wrapping-add-u32-requires : tie.Need-wrapping-add-u32-requires Inv-loop μ-loop
+wrapping-add-u32-requires c κs = search needs
+
+add-k : tie.Need-add-k Inv-loop μ-loop
+add-k c = omega arith
+
+loop-less : tie.Need-loop-less Inv-loop μ-loop
+loop-less c = omega arith
+
+loop-again : tie.Need-loop-again Inv-loop μ-loop
+loop-again c = (
+      omega arith,
+      sum-more _ _ (c .before .before .before .before .before .before .args .start) (c .before .before .before .before .before .loop .k) (c .before .before .before .before .before .loop .inv .1)
+          (c .before .bits .ensures ∙ product-residue (fits-x (c .before .before .before)) (fits-y (c .before .before)))
+          (c .wrapping-add-u32 .ensures),
+    )
+
+returns : tie.Need-returns Inv-loop μ-loop
+returns c = c .before .loop .inv .1 ∙ ap (λ n. leastResidue (2 ^ 32) (productSum (c .before .before .args .start) n (c .before .before .args .x .now) (c .before .before .args .y .now))) (omega arith)
+
+pub products-spec : {M : Type 1} → statement M
+products-spec =
+    tie.close
+    (tie.spec
+    Inv-loop
+    μ-loop
+    loop-holds
+    add-at
+    mul-product
+    shared-slice-copy-out-product
+    cast-product
+    mul-product-2
+    shared-slice-copy-out-product-2
+    cast-product-2
+    mul-product-3
+    bits-requires
+    wrapping-add-u32-requires
+    add-k
+    loop-less
+    loop-again
+    returns)

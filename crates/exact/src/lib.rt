@@ -1,0 +1,62 @@
+// Sums of products of 16-bit numbers, modulo 2^32. A sum that is known to be small is fixed by it, and the loop is one that a
+// compiler turns into vector instructions.
+ghost use mathlib.Core.Path.{_≡_};
+ghost use Prim.Native.Nat.{_+_, _≤_, _^_, min};
+ghost use lib.ListN.{length};
+ghost use Rattle.residue.specs.Rules.{leastResidue};
+ghost use Rattle.exact.specs.Rules.{dotProduct, productSum};
+
+// 2^32
+const WORD: u64 = 4_294_967_296;
+
+// How many products are added up at once: a loop of that many is laid out flat.
+const LANES: usize = 8;
+
+// The sum of the products of two lists, number by number, up to the end of the shorter one, modulo 2^32.
+pub fn dot(x: &[i16], y: &[i16]) -> u32
+    ensures { λ r. ⌜ r ≡ dotProduct (now (x .entry)) (now (y .entry)) ⌝ }
+{
+    let count = shorter(x.len(), y.len());
+    let mut sum: u32 = 0;
+    let mut k = 0;
+    while LANES <= count - k {
+        sum = std::num::wrapping_add_u32(sum, products(x, y, k, LANES));
+        k += LANES;
+    }
+    std::num::wrapping_add_u32(sum, products(x, y, k, count - k))
+}
+
+// The sum of count products, from number start of both lists on, modulo 2^32.
+fn products(x: &[i16], y: &[i16], start: usize, count: usize) -> u32
+    requires { ⌜ (start + count ≤ length (now x)) × (start + count ≤ length (now y)) ⌝ }
+    ensures { λ r. ⌜ r ≡ leastResidue (2 ^ 32) (productSum start count (now (x .entry)) (now (y .entry))) ⌝ }
+{
+    let mut sum: u32 = 0;
+    let mut k = 0;
+    while k < count {
+        let at = start + k;
+        let product = (x[at] as i32) * (y[at] as i32);
+        sum = std::num::wrapping_add_u32(sum, bits(product));
+        k += 1;
+    }
+    sum
+}
+
+fn shorter(m: usize, n: usize) -> usize
+    ensures { λ r. ⌜ r ≡ min m n ⌝ }
+{
+    if n < m {
+        return n;
+    }
+    m
+}
+
+// A signed number modulo 2^32.
+fn bits(n: i32) -> u32
+    ensures { λ r. ⌜ r ≡ leastResidue (2 ^ 32) n ⌝ }
+{
+    // 2^32 is added, so that the sum is not negative
+    let lifted = (n as i64) + (WORD as i64);
+    let low = (lifted as u64) % WORD;
+    low as u32
+}

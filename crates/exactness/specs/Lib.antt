@@ -1,0 +1,2 @@
+-- What the answers of the full check mean: the laws.
+pub mod Laws

@@ -1,0 +1,12 @@
+-- The laws. Each file opens with a table of what it states.
+--
+--   Records    lists one after the other; what the records of the written ticket hold
+--   Claims     quotient and remainder of a sum
+--   Operands   the operands, as the code tests and converts them
+--   Sums       the claims, as the code makes them
+--   Writes     the output, as the code writes records to it
+pub mod Records
+pub mod Claims
+pub mod Operands
+pub mod Sums
+pub mod Writes
