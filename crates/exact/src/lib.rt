@@ -9,8 +9,8 @@ ghost use Rattle.exact.specs.Rules.{dotProduct, productSum};
 // 2^32
 const WORD: u64 = 4_294_967_296;
 
-// How many products are added up at once: a loop of that many is laid out flat.
-const LANES: usize = 8;
+// How many products are added up at once, with no loop left, so that a compiler makes several of them at a time.
+const LANES: usize = 64;
 
 // The sum of the products of two lists, number by number, up to the end of the shorter one, modulo 2^32.
 pub fn dot(x: &[i16], y: &[i16]) -> u32
@@ -20,10 +20,31 @@ pub fn dot(x: &[i16], y: &[i16]) -> u32
     let mut sum: u32 = 0;
     let mut k = 0;
     while LANES <= count - k {
-        sum = std::num::wrapping_add_u32(sum, products(x, y, k, LANES));
+        sum = std::num::wrapping_add_u32(sum, sixty_four(x, y, k));
         k += LANES;
     }
     std::num::wrapping_add_u32(sum, products(x, y, k, count - k))
+}
+
+fn sixty_four(x: &[i16], y: &[i16], start: usize) -> u32
+    requires { ⌜ (start + 64 ≤ length (now x)) × (start + 64 ≤ length (now y)) ⌝ }
+    ensures { λ r. ⌜ r ≡ leastResidue (2 ^ 32) (productSum start 64 (now (x .entry)) (now (y .entry))) ⌝ }
+{
+    std::num::wrapping_add_u32(thirty_two(x, y, start), thirty_two(x, y, start + 32))
+}
+
+fn thirty_two(x: &[i16], y: &[i16], start: usize) -> u32
+    requires { ⌜ (start + 32 ≤ length (now x)) × (start + 32 ≤ length (now y)) ⌝ }
+    ensures { λ r. ⌜ r ≡ leastResidue (2 ^ 32) (productSum start 32 (now (x .entry)) (now (y .entry))) ⌝ }
+{
+    std::num::wrapping_add_u32(sixteen(x, y, start), sixteen(x, y, start + 16))
+}
+
+fn sixteen(x: &[i16], y: &[i16], start: usize) -> u32
+    requires { ⌜ (start + 16 ≤ length (now x)) × (start + 16 ≤ length (now y)) ⌝ }
+    ensures { λ r. ⌜ r ≡ leastResidue (2 ^ 32) (productSum start 16 (now (x .entry)) (now (y .entry))) ⌝ }
+{
+    std::num::wrapping_add_u32(products(x, y, start, 8), products(x, y, start + 8, 8))
 }
 
 // The sum of count products, from number start of both lists on, modulo 2^32.

@@ -7,6 +7,8 @@
 --   Fills         lists that a loop fills
 --   Limits        what a setting within its limits gives (T1)
 --   Forms         the form that the code gives the tests of a part
+--   All           whether a test holds at every place
+--   Passing       the tests of a part, each over all its records
 --   Parts         which record is in which part; the parts in order are the ticket
 --   Passes        what a ticket that passes gives
 --   Layout        record number, part, row and column (T4)
@@ -20,6 +22,8 @@ pub mod Positions
 pub mod Fills
 pub mod Limits
 pub mod Forms
+pub mod All
+pub mod Passing
 pub mod Parts
 pub mod Passes
 pub mod Layout

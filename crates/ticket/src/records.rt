@@ -1,16 +1,21 @@
 // Reading a ticket: the tests in order, part after part and record after record.
 ghost use mathlib.Core.Path.{_≡_};
-ghost use Prim.Native.Nat.{_+_, _*_, _≤_};
+ghost use Prim.Native.Nat.{_+_, _*_, _^_, _≤_, _<_};
 ghost use lib.ListN.{length};
-ghost use Rattle.ticket.specs.Rules.{after, reading, recordsReading, recordBytes};
+ghost use Rattle.ticket.specs.Rules.{after, reading, recordsReading, recordBytes, formed, valueAt};
 ghost use Rattle.ticket.specs.Laws.Limits.{Counts, Numbers};
-ghost use Rattle.ticket.specs.Laws.Forms.{from, partAnswer, testedAt, Within};
+ghost use Rattle.ticket.specs.Laws.All.{all};
+ghost use Rattle.ticket.specs.Laws.Forms.{from, partAnswer, testedAt, Within, Holds};
+ghost use Rattle.ticket.specs.Laws.Passing.{passing, inForm, rowInForm, valueMisses};
 use crate::Answer;
 use crate::Setting;
 use residue::Residue;
 
 // The bytes of a record: kind, a zero byte, row, column, and four bytes of value.
 pub const RECORD: usize = 8;
+
+// Rows of at most so many records are not worth the pass without branches.
+const FEW: u8 = 3;
 
 // What the records of a part have to be. A value is in range where, shift added modulo p, it is below limit; outside is the
 // number of the answer for one that is not.
@@ -108,7 +113,8 @@ fn read_records(setting: Setting, ticket: &[u8]) -> Answer
     read_part(read_q, ticket, form_r, start_r)
 }
 
-// The earlier answer, where it refuses; else that of the part from record start on.
+// The earlier answer, where it refuses; else that of the part from record start on. The tests are made without a branch
+// first; one by one, for the first that fails, only where some record fails.
 fn read_part(earlier: Answer, ticket: &[u8], form: Form, start: u32) -> Answer
     requires { ⌜ Within (now ticket) form start ⌝ }
     ensures { λ r. ⌜ r ≡ after earlier (partAnswer form start (from (recordBytes * start) (now (ticket .entry)))) ⌝ }
@@ -118,6 +124,78 @@ fn read_part(earlier: Answer, ticket: &[u8], form: Form, start: u32) -> Answer
     }
     let at = RECORD * (start as usize);
     let records = &ticket[at..];
+    if (FEW < form.columns) && passes(records, form) {
+        return Answer::PASSED;
+    }
+    first_refusal(records, form, start)
+}
+
+// Whether all records of a part pass. Below p, a value is out of range from limit - shift on and below p - shift.
+fn passes(records: &[u8], form: Form) -> bool
+    requires { ⌜ Holds (now records) form ⌝ }
+    ensures { λ r. ⌜ r ≡ all (form .rows * form .columns) (passing (now (records .entry)) form) ⌝ }
+{
+    let n = (form.rows as usize) * (form.columns as usize);
+    let low = form.limit - form.shift;
+    let size = Residue::MODULUS - form.limit;
+    let above = u32::MAX - Residue::MODULUS + 1;
+    all_formed(records, form)
+        & values_miss(records, n, Residue::MODULUS, above)
+        & values_miss(records, n, low, size)
+}
+
+// Whether all records of a part have their form.
+fn all_formed(records: &[u8], form: Form) -> bool
+    requires { ⌜ Holds (now records) form ⌝ }
+    ensures { λ r. ⌜ r ≡ all (form .rows * form .columns) (inForm (now (records .entry)) form) ⌝ }
+{
+    let mut ok = true;
+    let mut row: u8 = 0;
+    let mut start: usize = 0;
+    while row < form.rows {
+        ok = ok & row_formed(records, form, start, row);
+        start += form.columns as usize;
+        row += 1;
+    }
+    ok
+}
+
+// Whether the records of a row have their form, the first of which is record start.
+fn row_formed(records: &[u8], form: Form, start: usize, row: u8) -> bool
+    requires { ⌜ recordBytes * (start + form .columns) ≤ length (now records) ⌝ }
+    ensures { λ r. ⌜ r ≡ all (form .columns) (rowInForm (now (records .entry)) form start row) ⌝ }
+{
+    let mut ok = true;
+    let mut i = start;
+    let mut column: u8 = 0;
+    while column < form.columns {
+        ok = ok & formed(records, i, form.kind, row, column);
+        i += 1;
+        column += 1;
+    }
+    ok
+}
+
+// Whether no value of the first n records is one of the size numbers from low on. The test has no branch and the value
+// stands in it once, so that the compiler tests several records at a time.
+fn values_miss(records: &[u8], n: usize, low: u32, size: u32) -> bool
+    requires { ⌜ (recordBytes * n ≤ length (now records)) × (low + size ≤ 2 ^ 32) ⌝ }
+    ensures { λ r. ⌜ r ≡ all n (valueMisses (now (records .entry)) low size) ⌝ }
+{
+    let mut ok = true;
+    let mut i: usize = 0;
+    while i < n {
+        ok = ok & (size <= std::num::wrapping_sub_u32(value(records, i), low));
+        i += 1;
+    }
+    ok
+}
+
+// The answer of a part, the first record of which is record start of the ticket.
+fn first_refusal(records: &[u8], form: Form, start: u32) -> Answer
+    requires { ⌜ Holds (now records) form × (start < 2 ^ 16) ⌝ }
+    ensures { λ r. ⌜ r ≡ partAnswer form start (now (records .entry)) ⌝ }
+{
     let count = (form.rows as u32) * (form.columns as u32);
     let mut i: u32 = 0;
     let mut row: u8 = 0;
@@ -148,23 +226,10 @@ fn record_number(records: &[u8], form: Form, i: u32, row: u8, column: u8) -> u32
     requires { ⌜ recordBytes * i + recordBytes ≤ length (now records) ⌝ }
     ensures { λ r. ⌜ r ≡ testedAt (now (records .entry)) form i row column ⌝ }
 {
-    let at = RECORD * (i as usize);
-    let header = word(
-        records[at],
-        records[at + 1],
-        records[at + 2],
-        records[at + 3],
-    );
-    let expected = word(form.kind, 0, row, column);
-    if header != expected {
+    if !formed(records, i as usize, form.kind, row, column) {
         return 5;
     }
-    let value = word(
-        records[at + 4],
-        records[at + 5],
-        records[at + 6],
-        records[at + 7],
-    );
+    let value = value(records, i as usize);
     if Residue::MODULUS <= value {
         return 6;
     }
@@ -173,4 +238,26 @@ fn record_number(records: &[u8], form: Form, i: u32, row: u8, column: u8) -> u32
         return form.outside;
     }
     0
+}
+
+// Whether record i has the kind, a zero byte, the row and the column.
+fn formed(records: &[u8], i: usize, kind: u8, row: u8, column: u8) -> bool
+    requires { ⌜ recordBytes * i + recordBytes ≤ length (now records) ⌝ }
+    ensures { λ r. ⌜ r ≡ formed (now (records .entry)) i kind row column ⌝ }
+{
+    let at = RECORD * i;
+    let end = at + RECORD;
+    let record = &records[at..end];
+    word(record[0], record[1], record[2], record[3]) == word(kind, 0, row, column)
+}
+
+// The value of record i.
+fn value(records: &[u8], i: usize) -> u32
+    requires { ⌜ recordBytes * i + recordBytes ≤ length (now records) ⌝ }
+    ensures { λ r. ⌜ r ≡ valueAt (now (records .entry)) i ⌝ }
+{
+    let at = RECORD * i;
+    let end = at + RECORD;
+    let record = &records[at..end];
+    word(record[4], record[5], record[6], record[7])
 }

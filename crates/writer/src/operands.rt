@@ -4,10 +4,11 @@ ghost use Prim.Native.Nat.{_*_, _≤_, _^_, _<_};
 ghost use lib.IntN.{pos, natAbs};
 ghost use lib.ListN.{length, getD};
 ghost use Rattle.residue.specs.Rules.{modulus, leastResidue};
+ghost use Rattle.ticket.specs.Laws.All.{all};
 ghost use Rattle.ticket.specs.Laws.Fills.{Columns, Filled};
 ghost use Rattle.ticket.specs.Laws.Limits.{Counts};
 ghost use Rattle.writer.specs.Rules.{operandsReading};
-ghost use Rattle.writer.specs.Laws.Operands.{allWithin, beyondFrom, entryIn, mostEntries, Narrow, residueIn};
+ghost use Rattle.writer.specs.Laws.Operands.{beyondFrom, entryIn, mostEntries, Narrow, residueIn, withinAt};
 use residue::Residue;
 use ticket::Answer;
 use ticket::Setting;
@@ -68,7 +69,7 @@ fn first_beyond(operand: &[i32], bound: u32, start: u32) -> Answer
 
 // Whether no entry is beyond the bound, without a branch for each.
 fn all_within(operand: &[i32], bound: u32) -> bool
-    ensures { λ r. ⌜ r ≡ allWithin bound (length (now (operand .entry))) (now (operand .entry)) ⌝ }
+    ensures { λ r. ⌜ r ≡ all (length (now (operand .entry))) (withinAt bound (now (operand .entry))) ⌝ }
 {
     let mut within = true;
     let mut k = 0;

@@ -1,55 +1,22 @@
 //! "The challenge check".
 
+use crate::answer::Refusal;
 use crate::matrix::product;
-use crate::ticket::{self, Refusal, Ticket};
-use crate::{Setting, P};
-
-/// "An answer is four numbers: number, place, row, products."
-#[derive(Clone, Copy, Debug, PartialEq, Eq)]
-pub struct Answer {
-    pub number: u32,
-    pub place: u32,
-    pub row: u32,
-    pub products: u32,
-}
-
-impl From<[u32; 4]> for Answer {
-    /// The answer of these numbers, in the order of the fields.
-    fn from([number, place, row, products]: [u32; 4]) -> Answer {
-        Answer {
-            number,
-            place,
-            row,
-            products,
-        }
-    }
-}
+use crate::ticket::{self, Ticket};
+use crate::{Answer, Setting, P};
 
 /// The answer to a setting, the bytes of a ticket and a list, by the order "1,
 /// 2, 3, 4; then record after record, each by 5, 6 and its own range; then 10,
 /// 11, 12".
 pub fn challenge_check(setting: &Setting, ticket: &[u8], list: &[u32]) -> Answer {
-    decide(setting, ticket, list).unwrap_or_else(|Refusal { number, place }| {
-        // "Row and products are 0 except for 12". The place is a record of the
-        // ticket or an index of the list, both of a length that is right.
-        Answer {
-            number,
-            place: place as u32,
-            row: 0,
-            products: 0,
-        }
-    })
+    decide(setting, ticket, list).unwrap_or_else(Answer::from)
 }
 
 fn decide(setting: &Setting, ticket: &[u8], list: &[u32]) -> Result<Answer, Refusal> {
-    match setting.refusal() {
-        Some(number) => Err(Refusal { number, place: 0 }),
-        None => {
-            let ticket = ticket::read(setting, ticket)?;
-            let vectors = read_list(setting, list)?;
-            Ok(challenge(setting, &ticket, &vectors))
-        }
-    }
+    setting.test()?;
+    let ticket = ticket::read(setting, ticket)?;
+    let vectors = read_list(setting, list)?;
+    Ok(challenge(setting, &ticket, &vectors))
 }
 
 /// "The list holds s vectors of n least residues, the vectors one after

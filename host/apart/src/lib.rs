@@ -1,7 +1,8 @@
 //! The rules of the scope paper, followed sentence by sentence: residue
-//! arithmetic modulo p here at the root, the setting, the reading of a ticket
-//! and the challenge check in a module each, and, for those who test a checker,
-//! the making of tickets, true and false, and what the marked examples share.
+//! arithmetic modulo p here at the root, the setting, the reading of a ticket,
+//! the challenge check, the full check and the writer in a module each, and, for
+//! those who test them, the making of tickets, true and false, and what the
+//! marked examples share.
 //!
 //! Everything is exact integer arithmetic in `i128`. Every residue goes through
 //! one definition of the least residue. Every function takes every input,
@@ -11,16 +12,22 @@
 
 #![forbid(unsafe_code)]
 
+mod answer;
 mod check;
 pub mod examples;
+mod full;
 pub mod make;
 mod matrix;
 mod setting;
 mod ticket;
+mod writer;
 
-pub use check::{challenge_check, Answer};
+pub use answer::Answer;
+pub use check::challenge_check;
+pub use full::full_check;
 pub use make::true_ticket;
 pub use setting::Setting;
+pub use writer::write_ticket;
 
 /// The modulus of the scope paper: "p = 2,147,483,647."
 pub const P: i128 = 2_147_483_647;

@@ -43,16 +43,15 @@ impl Parts {
     ///
     /// If a part is not of its size under the setting.
     pub fn ticket(&self, setting: &Setting) -> Vec<u8> {
-        Part::ALL
-            .into_iter()
-            .flat_map(|part| {
-                let entries = self.part(part);
-                assert_eq!(part.count(setting), entries.len() as u128, "the size of {part:?}");
-                part.places(setting)
-                    .zip(entries)
-                    .flat_map(move |((row, column), &entry)| record(part.kind(), row, column, residue(entry)))
-            })
-            .collect()
+        let mut bytes = Vec::new();
+        for part in Part::ALL {
+            let entries = self.part(part);
+            assert_eq!(part.count(setting), entries.len() as u128, "the size of {part:?}");
+            for ((row, column), &entry) in part.places(setting).zip(entries) {
+                bytes.extend_from_slice(&record(part.kind(), row, column, residue(entry)));
+            }
+        }
+        bytes
     }
 
     fn part(&self, part: Part) -> &[i64] {

@@ -18,6 +18,11 @@ impl Matrix {
         self.entries.iter().copied()
     }
 
+    /// The entry at row i, column j.
+    pub(crate) fn entry(&self, i: u32, j: u32) -> i128 {
+        self.entries[i as usize * self.columns + j as usize]
+    }
+
     pub(crate) fn rows(&self) -> impl Iterator<Item = &[i128]> {
         self.entries.chunks(self.columns)
     }
@@ -26,6 +31,13 @@ impl Matrix {
     pub(crate) fn times(&self, vector: &[i128]) -> Vec<i128> {
         self.rows().map(|row| product(row, vector)).collect()
     }
+}
+
+/// "For row i, column j let S be the exact integer sum over all k below m of
+/// A(i,k)·B(k,j)." A has m columns, and B as many rows.
+pub(crate) fn exact_sum(a: &Matrix, b: &Matrix, i: u32, j: u32) -> i128 {
+    let m = a.columns as u32;
+    (0..m).map(|k| a.entry(i, k) * b.entry(k, j)).sum()
 }
 
 /// A row times a vector, modulo p. The sum is exact until its end: with factors

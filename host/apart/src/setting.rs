@@ -2,6 +2,7 @@
 
 use std::ops::RangeInclusive;
 
+use crate::answer::Refusal;
 use crate::P;
 
 /// The seven numbers of a setting. Any value may stand in any of them; whether
@@ -54,9 +55,8 @@ impl Setting {
         ]
     }
 
-    /// The number of the first of the tests 1, 2 and 3 that the setting does
-    /// not pass.
-    pub(crate) fn refusal(&self) -> Option<u32> {
+    /// The tests 1, 2 and 3, in this order, each with place 0.
+    pub(crate) fn test(&self) -> Result<(), Refusal> {
         // "rows of A: ℓ, 1 to 32; columns of A: m, 1 to 64; columns of B: n,
         // 1 to 32; challenge vectors: s, 1 to 8"
         let sizes = [
@@ -68,15 +68,16 @@ impl Setting {
         // "scale α, 2 to 65,536; entry bound T, 1 to 32,767; quotient width v,
         // 1 to 30"
         let others = [(self.scale, 2..=65_536), (self.bound, 1..=32_767), (self.width, 1..=30)];
-        if any_outside(&sizes) {
-            Some(1)
+        let number = if any_outside(&sizes) {
+            1
         } else if any_outside(&others) {
-            Some(2)
+            2
         } else if !self.fits() {
-            Some(3)
+            3
         } else {
-            None
-        }
+            return Ok(());
+        };
+        Err(Refusal { number, place: 0 })
     }
 
     /// "It fits when m·T² + α - 1 ≤ 2^(v-1)·α and 2^v·α < p." Asked only within

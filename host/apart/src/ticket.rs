@@ -2,6 +2,7 @@
 //! all of them; the records then become integers, or a refusal; the integers
 //! become matrices.
 
+use crate::answer::Refusal;
 use crate::matrix::Matrix;
 use crate::{least_residue, to_signed, Setting, P};
 
@@ -129,13 +130,6 @@ pub(crate) struct Ticket {
     pub(crate) b: Matrix,
     /// αq + r in every place.
     pub(crate) claims: Matrix,
-}
-
-/// A test that is not passed, and its place.
-#[derive(Clone, Copy, Debug, PartialEq, Eq)]
-pub(crate) struct Refusal {
-    pub(crate) number: u32,
-    pub(crate) place: usize,
 }
 
 /// Reads a ticket by the tests 4 to 9, under a setting that has passed 1 to 3.

@@ -1,15 +1,20 @@
-//! Times the library's challenge check beside the straightforward one, in one
-//! run and on the same true tickets. Run by hand:
+//! Times the library beside safe Rust of the same rules, in one run and on the
+//! same true tickets. Run by hand:
 //!
 //!     cargo run --release -p bench
 //!
-//! The two are timed in turns, so that whatever else the machine does falls on
-//! both. As it can only lengthen a time, the least time over the rounds is the
-//! figure that the rest is worked out from; the median is beside it.
+//! Beside each call stands a straightforward one, and beside the full check and
+//! the writer also the fastest that is known. All are timed in turns, so that
+//! whatever else the machine does falls on all. As it can only lengthen a time,
+//! the least time over the rounds is the figure that the rest is worked out
+//! from; the median is beside it.
 
 #![forbid(unsafe_code)]
 
+mod best;
 mod straightforward;
+#[cfg(test)]
+mod tests;
 
 use std::hint::black_box;
 use std::time::{Duration, Instant};
@@ -25,73 +30,136 @@ const MEASUREMENT: Duration = Duration::from_micros(500);
 const SIZES: [[u32; 3]; 3] = [[1, 1, 1], [8, 8, 8], [32, 64, 32]];
 const VECTORS: [u32; 2] = [1, 8];
 
-type Checker = fn(Setting, &[u8], &[u32]) -> Answer;
+type ChallengeCheck = fn(Setting, &[u8], &[u32]) -> Answer;
+type FullCheck = fn(Setting, &[u8]) -> Answer;
+type Writer = fn(Setting, &[i32], &[i32], &mut [u8]) -> Answer;
 
-const CHECKERS: [Checker; 2] = [dikdumar::challenge_check, straightforward::challenge_check];
+/// The library's first, and so below.
+const CHALLENGE_CHECKS: [(&str, ChallengeCheck); 2] = [
+    ("library", dikdumar::challenge_check),
+    ("straightforward", straightforward::challenge_check),
+];
+const FULL_CHECKS: [(&str, FullCheck); 3] = [
+    ("library", dikdumar::full_check),
+    ("best", best::full_check),
+    ("straightforward", straightforward::full_check),
+];
+const WRITERS: [(&str, Writer); 3] = [
+    ("library", dikdumar::write_ticket),
+    ("best", best::write_ticket),
+    ("straightforward", straightforward::write_ticket),
+];
 
 fn main() {
     println!(
-        "Nanoseconds, least (median) of {ROUNDS} rounds; ratio: the library's time over the other, least (median)"
+        "Nanoseconds, least (median) of {ROUNDS} rounds; ratio: the library's time over that of the column before, \
+         least (median)"
     );
+
     println!();
     println!("Challenge check of true tickets");
-    print_head("products", "ns per product");
+    print_head(&CHALLENGE_CHECKS.map(|(name, _)| name), "products", "ns per product");
     for sizes in SIZES {
         for vectors in VECTORS {
             let input = Input::new(sizes, vectors);
-            let answer = input.answer(&input.list);
+            let answer = input.challenge_answer(&input.list);
             assert_eq!(answer.number, 0, "a true ticket is accepted");
-            let times = measure(&input, &input.list);
-            let per_product = |time: &Time| time.least / f64::from(answer.products);
-            print_row(&input, answer.products as usize, &times, per_product);
+            let times = input.challenge_times(&input.list);
+            print_row(&input, answer.products as usize, &times, per_product(answer));
         }
     }
+
     println!();
-    println!("Reading alone: the check ends at a list of the wrong length");
-    print_head("bytes", "bytes per ns");
+    println!("Full check of true tickets");
+    print_head(&FULL_CHECKS.map(|(name, _)| name), "products", "ns per product");
     for sizes in SIZES {
         let input = Input::new(sizes, 1);
-        let answer = input.answer(&[]);
+        let answer = same(&FULL_CHECKS.map(|(_, check)| check(input.setting, &input.ticket)));
+        assert_eq!(answer.number, 0, "a true ticket is accepted");
+        let times = measure(FULL_CHECKS.map(|(_, check)| {
+            let input = &input;
+            move || check(black_box(input.setting), black_box(&input.ticket))
+        }));
+        print_row(&input, answer.products as usize, &times, per_product(answer));
+    }
+
+    println!();
+    println!("Writing of tickets");
+    print_head(&WRITERS.map(|(name, _)| name), "products", "ns per product");
+    for sizes in SIZES {
+        let input = Input::new(sizes, 1);
+        let answer = same(&WRITERS.map(|(name, write)| {
+            let mut output = vec![0; input.ticket.len()];
+            let answer = write(input.setting, &input.a, &input.b, &mut output);
+            assert!(output == input.ticket, "{name} writes the true ticket");
+            answer
+        }));
+        assert_eq!(answer.number, 0, "the ticket is written");
+        let times = measure(WRITERS.map(|(_, write)| {
+            let input = &input;
+            let mut output = vec![0; input.ticket.len()];
+            move || {
+                let (a, b) = (black_box(&input.a), black_box(&input.b));
+                write(black_box(input.setting), a, b, black_box(&mut output))
+            }
+        }));
+        print_row(&input, answer.products as usize, &times, per_product(answer));
+    }
+
+    println!();
+    println!("Reading alone: the challenge check ends at a list of the wrong length");
+    print_head(&CHALLENGE_CHECKS.map(|(name, _)| name), "bytes", "bytes per ns");
+    for sizes in SIZES {
+        let input = Input::new(sizes, 1);
+        let answer = input.challenge_answer(&[]);
         assert_eq!(answer.number, 10, "the list has the wrong length");
-        let times = measure(&input, &[]);
+        let times = input.challenge_times(&[]);
         let per_nanosecond = |time: &Time| input.ticket.len() as f64 / time.least;
         print_row(&input, input.ticket.len(), &times, per_nanosecond);
     }
 }
 
-fn print_head(amount: &str, rate: &str) {
-    println!(
-        "{:>10} {:>2} {amount:>9} {:>22} {:>22} {:>13} {rate:>17}",
-        "size", "s", "library", "straightforward", "ratio"
-    );
+fn per_product(answer: Answer) -> impl Fn(&Time) -> f64 {
+    move |time| time.least / f64::from(answer.products)
 }
 
-/// One line of figures; `rate` makes the last two, for the library and the
-/// straightforward check.
-fn print_row(input: &Input, amount: usize, times: &Times, rate: impl Fn(&Time) -> f64) {
-    let Times {
-        library,
-        straightforward,
-    } = times;
-    let ratio = Time {
-        least: library.least / straightforward.least,
-        median: library.median / straightforward.median,
-    };
-    println!(
-        "{:>10} {:>2} {amount:>9} {:>22} {:>22} {:>13} {:>8.2} {:>8.2}",
-        input.size(),
-        input.setting.vectors,
-        format!("{:.1} ({:.1})", library.least, library.median),
-        format!("{:.1} ({:.1})", straightforward.least, straightforward.median),
-        format!("{:.2} ({:.2})", ratio.least, ratio.median),
-        rate(library),
-        rate(straightforward),
-    );
+/// The names of the columns: after each time but the library's its ratio, and at
+/// the end the rates.
+fn print_head(names: &[&str], amount: &str, rate: &str) {
+    print!("{:>10} {:>2} {amount:>9}", "size", "s");
+    for (index, name) in names.iter().enumerate() {
+        print!(" {name:>22}");
+        if index > 0 {
+            print!(" {:>13}", "ratio");
+        }
+    }
+    println!(" {rate:>width$}", width = 9 * names.len() - 1);
 }
 
-/// A true ticket and a list for it.
+/// One line of figures; `rate` makes the last ones, one for each time.
+fn print_row(input: &Input, amount: usize, times: &[Time], rate: impl Fn(&Time) -> f64) {
+    print!("{:>10} {:>2} {amount:>9}", input.size(), input.setting.vectors);
+    for (index, time) in times.iter().enumerate() {
+        print!(" {:>22}", format!("{:.1} ({:.1})", time.least, time.median));
+        if index > 0 {
+            let ratio = Time {
+                least: times[0].least / time.least,
+                median: times[0].median / time.median,
+            };
+            print!(" {:>13}", format!("{:.2} ({:.2})", ratio.least, ratio.median));
+        }
+    }
+    for time in times {
+        print!(" {:>8.2}", rate(time));
+    }
+    println!();
+}
+
+/// Two matrices, their true ticket and a list for it.
 struct Input {
-    setting: apart::Setting,
+    setting: Setting,
+    a: Vec<i32>,
+    b: Vec<i32>,
     ticket: Vec<u8>,
     list: Vec<u32>,
 }
@@ -110,41 +178,56 @@ impl Input {
         };
         // Weyl's sequence spreads over the range well enough for timing.
         let spread = |index: u32| index.wrapping_add(1).wrapping_mul(0x9e37_79b9);
-        let entries = |count: u32, shift: u32| -> Vec<i64> {
+        let entries = |count: u32, shift: u32| -> Vec<i32> {
             (0..count)
-                .map(|index| i64::from(spread(index + shift) % 2001) - 1000)
+                .map(|index| (spread(index + shift) % 2001) as i32 - 1000)
                 .collect()
         };
-        let ticket = apart::true_ticket(
-            &setting,
-            &entries(rows * inner, 0),
-            &entries(inner * columns, rows * inner),
-        );
+        let a = entries(rows * inner, 0);
+        let b = entries(inner * columns, rows * inner);
+        let [wide_a, wide_b] = [&a, &b].map(|matrix| matrix.iter().copied().map(i64::from).collect::<Vec<_>>());
+        let ticket = apart::true_ticket(&setting, &wide_a, &wide_b);
         let list = (0..vectors * columns)
             .map(|index| spread(index) % 2_147_483_647)
             .collect();
-        Input { setting, ticket, list }
+        Input {
+            setting: Setting::from(setting.numbers()),
+            a,
+            b,
+            ticket,
+            list,
+        }
     }
 
     fn size(&self) -> String {
-        let [rows, inner, columns, ..] = self.setting.numbers();
+        let Setting {
+            rows, inner, columns, ..
+        } = self.setting;
         format!("{rows}×{inner}×{columns}")
     }
 
-    /// The setting as both checkers take it.
-    fn library_setting(&self) -> Setting {
-        Setting::from(self.setting.numbers())
+    /// The answer of all challenge checks.
+    fn challenge_answer(&self, list: &[u32]) -> Answer {
+        same(&CHALLENGE_CHECKS.map(|(_, check)| check(self.setting, &self.ticket, list)))
     }
 
-    /// The answer of both checkers, which is the same.
-    fn answer(&self, list: &[u32]) -> Answer {
-        let [library, straightforward] = CHECKERS.map(|check| check(self.library_setting(), &self.ticket, list));
-        assert_eq!(library, straightforward, "both give the same answer");
-        library
+    fn challenge_times(&self, list: &[u32]) -> [Time; 2] {
+        measure(
+            CHALLENGE_CHECKS
+                .map(|(_, check)| move || check(black_box(self.setting), black_box(&self.ticket), black_box(list))),
+        )
     }
 }
 
-/// Nanoseconds of one check.
+/// The answer of all, which is the same.
+fn same(answers: &[Answer]) -> Answer {
+    for answer in answers {
+        assert_eq!(*answer, answers[0], "all give the same answer");
+    }
+    answers[0]
+}
+
+/// Nanoseconds of one call.
 struct Time {
     least: f64,
     median: f64,
@@ -160,92 +243,32 @@ impl Time {
     }
 }
 
-struct Times {
-    library: Time,
-    straightforward: Time,
-}
-
-fn measure(input: &Input, list: &[u32]) -> Times {
-    // As many checks as fill a measurement, found by doubling; this also warms
+fn measure<const CALLS: usize>(mut calls: [impl FnMut() -> Answer; CALLS]) -> [Time; CALLS] {
+    // As many calls as fill a measurement, found by doubling; this also warms
     // up.
-    let counts = CHECKERS.map(|check| {
+    let counts = calls.each_mut().map(|call| {
         let mut count = 1;
-        while nanoseconds(check, input, list, count) * f64::from(count) < MEASUREMENT.as_nanos() as f64 {
+        while nanoseconds(call, count) * f64::from(count) < MEASUREMENT.as_nanos() as f64 {
             count *= 2;
         }
         count
     });
-    let mut times = [Vec::new(), Vec::new()];
+    let mut times = [const { Vec::new() }; CALLS];
     for round in 0..ROUNDS {
-        // Neither is always the first.
-        for turn in [round % 2, (round + 1) % 2] {
-            times[turn].push(nanoseconds(CHECKERS[turn], input, list, counts[turn]));
+        // None is always the first.
+        for turn in 0..CALLS {
+            let turn = (round + turn) % CALLS;
+            times[turn].push(nanoseconds(&mut calls[turn], counts[turn]));
         }
     }
-    let [library, straightforward] = times.map(Time::new);
-    Times {
-        library,
-        straightforward,
-    }
+    times.map(Time::new)
 }
 
-/// The time of one check, over `count` of them.
-fn nanoseconds(check: Checker, input: &Input, list: &[u32], count: u32) -> f64 {
-    let setting = input.library_setting();
+/// The time of one call, over `count` of them.
+fn nanoseconds(call: &mut impl FnMut() -> Answer, count: u32) -> f64 {
     let start = Instant::now();
     for _ in 0..count {
-        black_box(check(black_box(setting), black_box(&input.ticket), black_box(list)));
+        black_box(call());
     }
     start.elapsed().as_nanos() as f64 / f64::from(count)
-}
-
-#[cfg(test)]
-mod tests {
-    use super::*;
-
-    /// The answer is that of the implementation written apart.
-    fn assert_same(setting: apart::Setting, ticket: &[u8], list: &[u32]) {
-        let answer = straightforward::challenge_check(Setting::from(setting.numbers()), ticket, list);
-        let right = apart::challenge_check(&setting, ticket, list);
-        assert_eq!(apart::Answer::from(answer.numbers()), right);
-    }
-
-    /// What is timed beside the library has to follow the same rules.
-    #[test]
-    fn the_straightforward_check_follows_the_rules() {
-        let inputs = [Input::new([2, 3, 2], 2), Input::new([8, 8, 8], 8)];
-        for Input { setting, ticket, list } in inputs {
-            assert_same(setting, &ticket, &list);
-            assert_same(setting, &ticket, &list[1..]);
-            assert_same(setting, &ticket[1..], &list);
-            for index in 0..ticket.len() {
-                for bit in 0..8 {
-                    let mut damaged = ticket.clone();
-                    damaged[index] ^= 1 << bit;
-                    assert_same(setting, &damaged, &list);
-                }
-            }
-            for index in 0..list.len() {
-                let mut other = list.clone();
-                other[index] = 2_147_483_647;
-                assert_same(setting, &ticket, &other);
-            }
-        }
-    }
-
-    #[test]
-    fn the_straightforward_check_follows_the_limits() {
-        let limits = [1, 2, 8, 30, 32, 64, 32_767, 65_536];
-        for field in 0..7 {
-            for value in limits
-                .into_iter()
-                .flat_map(|limit| limit - 1..=limit + 1)
-                .chain([u32::MAX])
-            {
-                let mut numbers = apart::examples::K.numbers();
-                numbers[field] = value;
-                assert_same(numbers.into(), &[], &[]);
-            }
-        }
-    }
 }

@@ -1,76 +1,21 @@
-//! The challenge check as one writes it first: safe Rust, ordinary indexing,
-//! every product reduced at once with `% P`. The same tests in the same order.
+//! The calls as one writes them first: safe Rust, ordinary indexing, the values
+//! in vectors, 64-bit arithmetic, every product modulo p reduced at once with
+//! `% P`. The same tests in the same order.
 
 use dikdumar::{Answer, Setting};
 
 const P: u64 = 2_147_483_647;
 
 pub fn challenge_check(setting: Setting, ticket: &[u8], list: &[u32]) -> Answer {
-    if !within(setting.rows, 1, 32)
-        || !within(setting.inner, 1, 64)
-        || !within(setting.columns, 1, 32)
-        || !within(setting.vectors, 1, 8)
-    {
-        return refused(1, 0);
-    }
-    if !within(setting.scale, 2, 65_536) || !within(setting.bound, 1, 32_767) || !within(setting.width, 1, 30) {
-        return refused(2, 0);
-    }
+    let values = match read(setting, ticket) {
+        Ok(values) => values,
+        Err(refusal) => return refusal,
+    };
     let scale = u64::from(setting.scale);
-    let bound = u64::from(setting.bound);
-    let half = 1u64 << (setting.width - 1);
-    if u64::from(setting.inner) * bound * bound + scale - 1 > half * scale || 2 * half * scale >= P {
-        return refused(3, 0);
-    }
-
     let rows = setting.rows as usize;
     let inner = setting.inner as usize;
     let columns = setting.columns as usize;
     let vectors = setting.vectors as usize;
-    if ticket.len() != 8 * (rows * inner + inner * columns + 2 * rows * columns) {
-        return refused(4, 0);
-    }
-
-    // The values of the four parts, one after another.
-    let mut values = Vec::with_capacity(ticket.len() / 8);
-    for (kind, height, width) in [
-        (1, rows, inner),
-        (2, inner, columns),
-        (3, rows, columns),
-        (4, rows, columns),
-    ] {
-        for row in 0..height {
-            for column in 0..width {
-                let index = values.len();
-                let record = &ticket[8 * index..8 * index + 8];
-                if record[0] != kind || record[1] != 0 || record[2] as usize != row || record[3] as usize != column {
-                    return refused(5, index);
-                }
-                let value = u64::from(u32::from_le_bytes([record[4], record[5], record[6], record[7]]));
-                if value >= P {
-                    return refused(6, index);
-                }
-                match kind {
-                    1 | 2 => {
-                        if value > bound && value < P - bound {
-                            return refused(7, index);
-                        }
-                    }
-                    3 => {
-                        if (value + half) % P >= 2 * half {
-                            return refused(8, index);
-                        }
-                    }
-                    _ => {
-                        if value >= scale {
-                            return refused(9, index);
-                        }
-                    }
-                }
-                values.push(value);
-            }
-        }
-    }
 
     if list.len() != vectors * columns {
         return refused(10, 0);
@@ -127,6 +72,203 @@ pub fn challenge_check(setting: Setting, ticket: &[u8], list: &[u32]) -> Answer 
         place: 0,
         row: 0,
         products: products as u32,
+    }
+}
+
+pub fn full_check(setting: Setting, ticket: &[u8]) -> Answer {
+    let values = match read(setting, ticket) {
+        Ok(values) => values,
+        Err(refusal) => return refusal,
+    };
+    let rows = setting.rows as usize;
+    let inner = setting.inner as usize;
+    let columns = setting.columns as usize;
+    let mut entries = vec![0; values.len()];
+    for index in 0..entries.len() {
+        entries[index] = to_signed(values[index]);
+    }
+    let a = &entries[..rows * inner];
+    let b = &entries[rows * inner..rows * inner + inner * columns];
+    let quotients = &entries[rows * inner + inner * columns..rows * inner + inner * columns + rows * columns];
+    let remainders = &entries[rows * inner + inner * columns + rows * columns..];
+    for i in 0..rows {
+        for j in 0..columns {
+            let mut sum = 0;
+            for k in 0..inner {
+                sum += a[i * inner + k] * b[k * columns + j];
+            }
+            let place = i * columns + j;
+            if i64::from(setting.scale) * quotients[place] + remainders[place] != sum {
+                return Answer {
+                    number: 16,
+                    place: place as u32,
+                    row: 0,
+                    products: (inner * (place + 1)) as u32,
+                };
+            }
+        }
+    }
+    Answer {
+        number: 0,
+        place: 0,
+        row: 0,
+        products: (rows * inner * columns) as u32,
+    }
+}
+
+pub fn write_ticket(setting: Setting, a: &[i32], b: &[i32], output: &mut [u8]) -> Answer {
+    if let Some(number) = setting_refusal(setting) {
+        return refused(number, 0);
+    }
+    let rows = setting.rows as usize;
+    let inner = setting.inner as usize;
+    let columns = setting.columns as usize;
+    if a.len() != rows * inner {
+        return refused(13, 0);
+    }
+    if b.len() != inner * columns {
+        return refused(13, 1);
+    }
+    let bound = i64::from(setting.bound);
+    for index in 0..a.len() {
+        if i64::from(a[index]).abs() > bound {
+            return refused(14, index);
+        }
+    }
+    for index in 0..b.len() {
+        if i64::from(b[index]).abs() > bound {
+            return refused(14, a.len() + index);
+        }
+    }
+    let length = 8 * (rows * inner + inner * columns + 2 * rows * columns);
+    if output.len() < length {
+        return refused(15, 0);
+    }
+
+    for i in 0..rows {
+        for k in 0..inner {
+            write_record(output, i * inner + k, 1, i, k, i64::from(a[i * inner + k]));
+        }
+    }
+    for k in 0..inner {
+        for j in 0..columns {
+            let index = rows * inner + k * columns + j;
+            write_record(output, index, 2, k, j, i64::from(b[k * columns + j]));
+        }
+    }
+    let scale = i64::from(setting.scale);
+    for i in 0..rows {
+        for j in 0..columns {
+            let mut sum = 0;
+            for k in 0..inner {
+                sum += i64::from(a[i * inner + k]) * i64::from(b[k * columns + j]);
+            }
+            let index = rows * inner + inner * columns + i * columns + j;
+            write_record(output, index, 3, i, j, sum.div_euclid(scale));
+            write_record(output, index + rows * columns, 4, i, j, sum.rem_euclid(scale));
+        }
+    }
+    Answer {
+        number: 0,
+        place: length as u32,
+        row: 0,
+        products: (rows * inner * columns) as u32,
+    }
+}
+
+/// The number of the test of 1 to 3 that the setting does not pass.
+fn setting_refusal(setting: Setting) -> Option<u32> {
+    if !within(setting.rows, 1, 32)
+        || !within(setting.inner, 1, 64)
+        || !within(setting.columns, 1, 32)
+        || !within(setting.vectors, 1, 8)
+    {
+        return Some(1);
+    }
+    if !within(setting.scale, 2, 65_536) || !within(setting.bound, 1, 32_767) || !within(setting.width, 1, 30) {
+        return Some(2);
+    }
+    let scale = u64::from(setting.scale);
+    let bound = u64::from(setting.bound);
+    let half = 1u64 << (setting.width - 1);
+    if u64::from(setting.inner) * bound * bound + scale - 1 > half * scale || 2 * half * scale >= P {
+        return Some(3);
+    }
+    None
+}
+
+/// The values of the four parts, one after another, after the tests 1 to 9.
+fn read(setting: Setting, ticket: &[u8]) -> Result<Vec<u64>, Answer> {
+    if let Some(number) = setting_refusal(setting) {
+        return Err(refused(number, 0));
+    }
+    let scale = u64::from(setting.scale);
+    let bound = u64::from(setting.bound);
+    let half = 1u64 << (setting.width - 1);
+    let rows = setting.rows as usize;
+    let inner = setting.inner as usize;
+    let columns = setting.columns as usize;
+    if ticket.len() != 8 * (rows * inner + inner * columns + 2 * rows * columns) {
+        return Err(refused(4, 0));
+    }
+
+    let mut values = Vec::with_capacity(ticket.len() / 8);
+    for (kind, height, width) in [
+        (1, rows, inner),
+        (2, inner, columns),
+        (3, rows, columns),
+        (4, rows, columns),
+    ] {
+        for row in 0..height {
+            for column in 0..width {
+                let index = values.len();
+                let record = &ticket[8 * index..8 * index + 8];
+                if record[0] != kind || record[1] != 0 || record[2] as usize != row || record[3] as usize != column {
+                    return Err(refused(5, index));
+                }
+                let value = u64::from(u32::from_le_bytes([record[4], record[5], record[6], record[7]]));
+                if value >= P {
+                    return Err(refused(6, index));
+                }
+                match kind {
+                    1 | 2 => {
+                        if value > bound && value < P - bound {
+                            return Err(refused(7, index));
+                        }
+                    }
+                    3 => {
+                        if (value + half) % P >= 2 * half {
+                            return Err(refused(8, index));
+                        }
+                    }
+                    _ => {
+                        if value >= scale {
+                            return Err(refused(9, index));
+                        }
+                    }
+                }
+                values.push(value);
+            }
+        }
+    }
+    Ok(values)
+}
+
+fn write_record(output: &mut [u8], index: usize, kind: u8, row: usize, column: usize, number: i64) {
+    let value = number.rem_euclid(P as i64) as u32;
+    let record = &mut output[8 * index..8 * index + 8];
+    record[0] = kind;
+    record[1] = 0;
+    record[2] = row as u8;
+    record[3] = column as u8;
+    record[4..].copy_from_slice(&value.to_le_bytes());
+}
+
+fn to_signed(value: u64) -> i64 {
+    if value <= (P - 1) / 2 {
+        value as i64
+    } else {
+        value as i64 - P as i64
     }
 }
 

@@ -1,28 +1,238 @@
-//! One case of the challenge check, the answer to it on both sides, and the
-//! comparison of a family of cases.
+//! The cases: a call of a check or of the writer with what is handed to it, the
+//! reply of both sides, and the reply that the rules state.
 
-use std::fmt::{self, Display, Formatter};
-
+use apart::make::ticket_length;
 use apart::{Answer, Setting};
 
-use crate::outcome::Test;
+/// The calls that cases are made for.
+#[derive(Clone, Copy, Debug, PartialEq, Eq)]
+pub enum Kind {
+    Challenge,
+    Full,
+    Writer,
+}
 
-/// What is handed to the check.
-#[derive(Clone, Debug)]
-pub struct Case {
+impl Kind {
+    pub const ALL: [Kind; 3] = [Kind::Challenge, Kind::Full, Kind::Writer];
+
+    pub fn name(self) -> &'static str {
+        match self {
+            Kind::Challenge => "challenge check",
+            Kind::Full => "full check",
+            Kind::Writer => "writer",
+        }
+    }
+
+    /// The numbers that the call answers with.
+    pub fn numbers(self) -> &'static [u32] {
+        match self {
+            Kind::Challenge => &[0, 1, 2, 3, 4, 5, 6, 7, 8, 9, 10, 11, 12],
+            Kind::Full => &[0, 1, 2, 3, 4, 5, 6, 7, 8, 9, 16],
+            Kind::Writer => &[0, 1, 2, 3, 13, 14, 15],
+        }
+    }
+}
+
+/// A call, with what is handed to it beside the setting.
+#[derive(Clone, Copy, Debug)]
+pub enum Call<'a> {
+    Challenge {
+        ticket: &'a [u8],
+        list: &'a [u32],
+    },
+    Full {
+        ticket: &'a [u8],
+    },
+    Writer {
+        a: &'a [i32],
+        b: &'a [i32],
+        /// The output as it is before the call.
+        output: &'a [u8],
+    },
+}
+
+/// A call and, where it is stated, the reply to it.
+#[derive(Debug)]
+pub struct Case<'a> {
     /// Which case of its family it is.
+    pub what: &'static str,
+    pub setting: Setting,
+    pub call: Call<'a>,
+    /// The reply where the rules state it or it follows from how the case was
+    /// made. Both sides are held to it.
+    pub expected: Option<Reply>,
+}
+
+impl Case<'_> {
+    pub fn kind(&self) -> Kind {
+        match self.call {
+            Call::Challenge { .. } => Kind::Challenge,
+            Call::Full { .. } => Kind::Full,
+            Call::Writer { .. } => Kind::Writer,
+        }
+    }
+}
+
+/// What comes back from a call.
+#[derive(Clone, Debug, PartialEq, Eq)]
+pub struct Reply {
+    pub answer: Answer,
+    /// After a call of the writer its output, between bytes that were not lent;
+    /// after a check nothing.
+    pub buffer: Vec<u8>,
+}
+
+impl From<Answer> for Reply {
+    /// The reply of a check.
+    fn from(answer: Answer) -> Reply {
+        Reply {
+            answer,
+            buffer: Vec::new(),
+        }
+    }
+}
+
+/// The bytes on each side of an output. Their number is odd, so an output does
+/// not begin where it would be aligned.
+pub const GUARD: [u8; 13] = [0x5A; 13];
+
+/// An output between bytes that are not lent.
+fn guarded(output: &[u8]) -> Vec<u8> {
+    [GUARD.as_slice(), output, &GUARD].concat()
+}
+
+/// One side of the comparison: the library, or the implementation written apart.
+pub type Side = fn(&Case) -> Reply;
+
+pub fn library(case: &Case) -> Reply {
+    let setting = dikdumar::Setting::from(case.setting.numbers());
+    let answer = |answer: dikdumar::Answer| Answer::from(answer.numbers());
+    match case.call {
+        Call::Challenge { ticket, list } => Reply::from(answer(dikdumar::challenge_check(setting, ticket, list))),
+        Call::Full { ticket } => Reply::from(answer(dikdumar::full_check(setting, ticket))),
+        Call::Writer { a, b, output } => {
+            write_into(output, |output| answer(dikdumar::write_ticket(setting, a, b, output)))
+        }
+    }
+}
+
+pub fn apart(case: &Case) -> Reply {
+    let setting = &case.setting;
+    match case.call {
+        Call::Challenge { ticket, list } => Reply::from(apart::challenge_check(setting, ticket, list)),
+        Call::Full { ticket } => Reply::from(apart::full_check(setting, ticket)),
+        Call::Writer { a, b, output } => write_into(output, |output| apart::write_ticket(setting, a, b, output)),
+    }
+}
+
+/// Lends a copy of the output to a writer.
+fn write_into(output: &[u8], write: impl FnOnce(&mut [u8]) -> Answer) -> Reply {
+    let mut buffer = guarded(output);
+    let answer = write(&mut buffer[GUARD.len()..][..output.len()]);
+    Reply { answer, buffer }
+}
+
+/// A ticket with a list, for the challenge check or both checks.
+#[derive(Clone, Debug)]
+pub struct TicketCase {
     pub what: &'static str,
     pub setting: Setting,
     pub ticket: Vec<u8>,
     pub list: Vec<u32>,
-    /// The answer where the rules state it or it follows from how the case was
-    /// made. Both sides are held to it.
+    /// The answer of the challenge check, where it is stated.
     pub expected: Option<Answer>,
 }
 
-/// Takes the cases of a family one by one. A family lends each of them, so that
-/// it may change one ticket over and over.
-pub type Visitor<'a> = dyn FnMut(&Case) + 'a;
+/// Operands and an output, for the writer.
+#[derive(Clone, Debug)]
+pub struct WriterCase {
+    pub what: &'static str,
+    pub setting: Setting,
+    pub a: Vec<i32>,
+    pub b: Vec<i32>,
+    pub output: Vec<u8>,
+    /// What the writer does, where it is stated.
+    pub expected: Option<Writing>,
+}
+
+/// What the writer does.
+#[derive(Clone, Debug)]
+pub enum Writing {
+    /// It writes this ticket over the beginning of the output.
+    Ticket(Vec<u8>),
+    /// It refuses with this answer and writes nothing.
+    Refusal(Answer),
+}
+
+impl Writing {
+    fn reply(&self, setting: &Setting, output: &[u8]) -> Reply {
+        match self {
+            Writing::Ticket(ticket) => {
+                let past = &output[ticket.len()..];
+                Reply {
+                    answer: written(setting),
+                    buffer: guarded(&[ticket, past].concat()),
+                }
+            }
+            Writing::Refusal(answer) => Reply {
+                answer: *answer,
+                buffer: guarded(output),
+            },
+        }
+    }
+}
+
+/// Takes the cases of a family one by one. A family lends what they are made of,
+/// so that it may change one ticket over and over.
+pub struct Visitor<'a>(pub &'a mut dyn FnMut(&Case));
+
+impl Visitor<'_> {
+    /// The challenge check of a ticket with a list, and the full check of the
+    /// ticket. Both make the tests 1 to 9 first, so a stated answer among these
+    /// is that of both.
+    pub fn checks(&mut self, case: &TicketCase) {
+        self.challenge(case);
+        let of_both = case.expected.filter(|answer| (1..=9).contains(&answer.number));
+        self.full(case.what, &case.setting, &case.ticket, of_both);
+    }
+
+    pub fn challenge(&mut self, case: &TicketCase) {
+        (self.0)(&Case {
+            what: case.what,
+            setting: case.setting,
+            call: Call::Challenge {
+                ticket: &case.ticket,
+                list: &case.list,
+            },
+            expected: case.expected.map(Reply::from),
+        });
+    }
+
+    pub fn full(&mut self, what: &'static str, setting: &Setting, ticket: &[u8], expected: Option<Answer>) {
+        (self.0)(&Case {
+            what,
+            setting: *setting,
+            call: Call::Full { ticket },
+            expected: expected.map(Reply::from),
+        });
+    }
+
+    pub fn write(&mut self, case: &WriterCase) {
+        (self.0)(&Case {
+            what: case.what,
+            setting: case.setting,
+            call: Call::Writer {
+                a: &case.a,
+                b: &case.b,
+                output: &case.output,
+            },
+            expected: case
+                .expected
+                .as_ref()
+                .map(|writing| writing.reply(&case.setting, &case.output)),
+        });
+    }
+}
 
 /// A family of cases, compared as one test.
 pub struct Family {
@@ -30,6 +240,7 @@ pub struct Family {
     pub visit: fn(&mut Visitor),
 }
 
+/// Accepted by the challenge check.
 pub fn accepted(setting: &Setting) -> Answer {
     let Setting {
         rows,
@@ -55,7 +266,7 @@ pub fn refused(number: u32, place: usize) -> Answer {
     }
 }
 
-/// Caught in vector t, row i.
+/// Caught by the challenge check in vector t, row i.
 pub fn caught(setting: &Setting, t: usize, i: usize) -> Answer {
     let Setting {
         rows, inner, columns, ..
@@ -69,191 +280,31 @@ pub fn caught(setting: &Setting, t: usize, i: usize) -> Answer {
     }
 }
 
-/// A checker: the library, or the one written apart.
-pub type Checker = fn(&Case) -> Answer;
-
-pub fn library(case: &Case) -> Answer {
-    let setting = dikdumar::Setting::from(case.setting.numbers());
-    dikdumar::challenge_check(setting, &case.ticket, &case.list)
-        .numbers()
-        .into()
-}
-
-pub fn apart(case: &Case) -> Answer {
-    apart::challenge_check(&case.setting, &case.ticket, &case.list)
-}
-
-/// How often the library answered each number from 0 to 12. Any other number is
-/// a difference, and so is not counted.
-pub type Numbers = [u64; 13];
-
-/// What the comparison of a family found.
-pub struct Outcome {
-    pub compared: u64,
-    pub differing: u64,
-    pub first: Option<Difference>,
-    pub numbers: Numbers,
-}
-
-/// A case whose answers are not all the same.
-pub struct Difference {
-    /// Its index in the family.
-    index: u64,
-    case: Case,
-    library: Answer,
-    apart: Answer,
-}
-
-/// Compares the two checkers on every case of a family.
-pub fn compare(family: &Family, library: Checker, apart: Checker) -> Outcome {
-    let mut outcome = Outcome {
-        compared: 0,
-        differing: 0,
-        first: None,
-        numbers: [0; 13],
-    };
-    (family.visit)(&mut |case| {
-        let (by_library, by_apart) = (library(case), apart(case));
-        if let Some(count) = outcome.numbers.get_mut(by_library.number as usize) {
-            *count += 1;
-        }
-        let right = case.expected.unwrap_or(by_apart);
-        if by_library != right || by_apart != right {
-            outcome.differing += 1;
-            outcome.first.get_or_insert_with(|| Difference {
-                index: outcome.compared,
-                case: case.clone(),
-                library: by_library,
-                apart: by_apart,
-            });
-        }
-        outcome.compared += 1;
-    });
-    outcome
-}
-
-impl Outcome {
-    pub fn test(&self, family: &Family) -> Test {
-        let Outcome {
-            compared, differing, ..
-        } = self;
-        Test {
-            compared: *compared,
-            report: match &self.first {
-                None if *compared == 0 => Err(format!("{}: no case", family.name)),
-                None => Ok(format!("{}: {compared} cases, no difference", family.name)),
-                Some(first) => Err(format!(
-                    "{}: {compared} cases, {differing} with a wrong answer, the first is\n{first}",
-                    family.name
-                )),
-            },
-        }
+/// Accepted by the full check.
+pub fn accepted_in_full(setting: &Setting) -> Answer {
+    Answer {
+        number: 0,
+        place: 0,
+        row: 0,
+        products: setting.rows * setting.inner * setting.columns,
     }
 }
 
-impl Display for Difference {
-    fn fmt(&self, f: &mut Formatter) -> fmt::Result {
-        let Case {
-            what,
-            setting,
-            ticket,
-            list,
-            expected,
-        } = &self.case;
-        writeln!(f, "  case {}: {what}", self.index)?;
-        writeln!(
-            f,
-            "  setting: rows {}, inner {}, columns {}, vectors {}, scale {}, bound {}, width {}",
-            setting.rows, setting.inner, setting.columns, setting.vectors, setting.scale, setting.bound, setting.width
-        )?;
-        writeln!(f, "  ticket: {} bytes", ticket.len())?;
-        // A long ticket would only hide the rest; the seeds are fixed, so the
-        // case can be made again.
-        if ticket.len() <= LONGEST_TICKET {
-            for (index, record) in ticket.chunks(8).enumerate() {
-                write!(f, "    {index:3}:")?;
-                for byte in record {
-                    write!(f, " {byte:02X}")?;
-                }
-                writeln!(f)?;
-            }
-        }
-        writeln!(f, "  list: {} numbers {list:?}", list.len())?;
-        if let Some(expected) = expected {
-            writeln!(f, "  stated:  {}", line(expected))?;
-        }
-        writeln!(f, "  library: {}", line(&self.library))?;
-        write!(f, "  apart:   {}", line(&self.apart))
-    }
-}
-
-const LONGEST_TICKET: usize = 512;
-
-/// An answer as the program prints it.
-fn line(answer: &Answer) -> String {
-    let Answer {
-        number,
+/// The first untrue claim is at place i·n + j.
+pub fn untrue(setting: &Setting, place: usize) -> Answer {
+    let place = place as u32;
+    Answer {
+        number: 16,
         place,
-        row,
-        products,
-    } = answer;
-    format!("{number} {place} {row} {products}")
+        row: 0,
+        products: setting.inner * (place + 1),
+    }
 }
 
-#[cfg(test)]
-mod tests {
-    use super::*;
-    use crate::families::craft::case_c;
-
-    const ONE_CASE: Family = Family {
-        name: "one case",
-        visit: |visit| visit(&case_c()),
-    };
-
-    fn one_product_more(case: &Case) -> Answer {
-        let answer = apart(case);
-        Answer {
-            products: answer.products + 1,
-            ..answer
-        }
-    }
-
-    #[test]
-    fn the_right_answer_passes() {
-        let outcome = compare(&ONE_CASE, apart, apart);
-        assert_eq!((outcome.compared, outcome.differing, outcome.numbers[0]), (1, 0, 1));
-        assert!(outcome.test(&ONE_CASE).report.is_ok());
-    }
-
-    /// A comparison that could not fail would be no test.
-    #[test]
-    fn a_wrong_answer_is_noticed() {
-        let outcome = compare(&ONE_CASE, one_product_more, apart);
-        assert_eq!((outcome.compared, outcome.differing), (1, 1));
-        let report = outcome.test(&ONE_CASE).report.expect_err("the answers differ");
-        for part in [
-            "setting: rows 2, inner 2, columns 2, vectors 1, scale 10, bound 8, width 5",
-            "8: 03 00 00 00 FD FF FF 7F",
-            "list: 2 numbers [1, 2]",
-            "library: 0 0 0 13",
-            "apart:   0 0 0 12",
-        ] {
-            assert!(report.contains(part), "{part} is not in\n{report}");
-        }
-    }
-
-    #[test]
-    fn the_same_wrong_answer_on_both_sides_is_noticed() {
-        let outcome = compare(&ONE_CASE, one_product_more, one_product_more);
-        assert_eq!((outcome.compared, outcome.differing), (1, 1));
-    }
-
-    #[test]
-    fn a_family_without_a_case_fails() {
-        let none = Family {
-            name: "none",
-            visit: |_| (),
-        };
-        assert!(compare(&none, apart, apart).test(&none).report.is_err());
+/// Written under a setting within the limits.
+fn written(setting: &Setting) -> Answer {
+    Answer {
+        place: ticket_length(setting) as u32,
+        ..accepted_in_full(setting)
     }
 }

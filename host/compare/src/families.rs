@@ -1,5 +1,6 @@
-//! The families of cases for the challenge check.
+//! The families of cases for the checks and the writer.
 
+mod claims;
 pub mod craft;
 mod damage;
 mod examples;
@@ -10,10 +11,11 @@ mod lists;
 mod random;
 mod settings;
 mod true_tickets;
+pub mod writer;
 
 use crate::cases::Family;
 
-pub const ALL: [Family; 26] = [
+pub const ALL: [Family; 45] = [
     Family {
         name: "examples of the table of numbers",
         visit: examples::table,
@@ -117,5 +119,81 @@ pub const ALL: [Family; 26] = [
     Family {
         name: "random settings",
         visit: random::settings,
+    },
+    Family {
+        name: "one claim of a written ticket changed, every claim",
+        visit: claims::every_claim,
+    },
+    Family {
+        name: "one claim of a written ticket changed, many sizes",
+        visit: claims::some_claims,
+    },
+    Family {
+        name: "two claims of a written ticket changed",
+        visit: claims::two_claims,
+    },
+    Family {
+        name: "an operand of a written ticket changed",
+        visit: claims::operands,
+    },
+    Family {
+        name: "written tickets of many sizes",
+        visit: writer::operands::many_sizes,
+    },
+    Family {
+        name: "written tickets of the extreme sizes and operands",
+        visit: writer::operands::corners,
+    },
+    Family {
+        name: "written tickets of every small size",
+        visit: writer::operands::small_sizes,
+    },
+    Family {
+        name: "written tickets, the largest bound that fits",
+        visit: writer::fitting::largest_bounds,
+    },
+    Family {
+        name: "written tickets, the largest bound that fits, large sizes",
+        visit: writer::fitting::largest_bounds_of_large,
+    },
+    Family {
+        name: "written tickets, the smallest and the largest width that fits",
+        visit: writer::fitting::widths,
+    },
+    Family {
+        name: "output lengths",
+        visit: writer::outputs::lengths,
+    },
+    Family {
+        name: "operand lengths",
+        visit: writer::refusals::operand_lengths,
+    },
+    Family {
+        name: "one operand at or beyond the bound",
+        visit: writer::refusals::operands_beyond,
+    },
+    Family {
+        name: "two operands beyond the bound",
+        visit: writer::refusals::two_operands_beyond,
+    },
+    Family {
+        name: "several refusals of the writer at once",
+        visit: writer::refusals::several,
+    },
+    Family {
+        name: "random operands, small",
+        visit: writer::random::small,
+    },
+    Family {
+        name: "random operands, medium",
+        visit: writer::random::medium,
+    },
+    Family {
+        name: "random operands, large",
+        visit: writer::random::large,
+    },
+    Family {
+        name: "random settings of the writer",
+        visit: writer::random::settings,
     },
 ];

@@ -1,12 +1,14 @@
 //! Compares every call of the proved library with the implementation written
 //! apart from it: the residue calls on all pairs of corner values and on random
-//! inputs, the challenge check on families of cases. Each call and each family
-//! is one test, and it is one more that the check gave each of its numbers at
-//! some case. The last line says how many passed, and how many did not.
+//! inputs, the two checks and the writer on families of cases. Each residue call
+//! and each family is one test, and it is one more that the checks and the writer
+//! gave each of their numbers at some case. The last line says how many passed,
+//! and how many did not.
 
 #![forbid(unsafe_code)]
 
 mod cases;
+mod comparison;
 mod families;
 mod generator;
 mod inputs;
@@ -15,7 +17,8 @@ mod residues;
 
 use std::process::ExitCode;
 
-use cases::Numbers;
+use cases::Kind;
+use comparison::Numbers;
 use outcome::Test;
 
 fn main() -> ExitCode {
@@ -23,12 +26,10 @@ fn main() -> ExitCode {
     for (seed, call) in (1..).zip(&residues::CALLS) {
         run.take(residues::test(call, seed));
     }
-    let mut numbers: Numbers = [0; 13];
+    let mut numbers = Numbers::default();
     for family in &families::ALL {
-        let outcome = cases::compare(family, cases::library, cases::apart);
-        for (total, count) in numbers.iter_mut().zip(outcome.numbers) {
-            *total += count;
-        }
+        let outcome = comparison::compare(family, cases::library, cases::apart);
+        numbers.add(&outcome.numbers);
         run.take(outcome.test(family));
     }
     println!("{} answers compared", run.compared);
@@ -65,18 +66,21 @@ impl Run {
     }
 }
 
-/// A number that no case is answered with has not been compared.
+/// A number that a call answers no case with has not been compared.
 fn every_number(numbers: &Numbers) -> Test {
-    let counts: Vec<String> = (0..)
-        .zip(numbers)
-        .map(|(n, count)| format!("  {n:2}: {count}"))
-        .collect();
-    let missing: Vec<String> = (0..)
-        .zip(numbers)
-        .filter(|(_, &count)| count == 0)
-        .map(|(number, _): (u32, _)| number.to_string())
-        .collect();
-    let lines = format!("answers of each number:\n{}", counts.join("\n"));
+    let mut lines = vec![String::from("answers of each number:")];
+    let mut missing = Vec::new();
+    for kind in Kind::ALL {
+        lines.push(format!("  {}", kind.name()));
+        for &number in kind.numbers() {
+            let count = numbers.of(kind, number);
+            lines.push(format!("    {number:2}: {count}"));
+            if count == 0 {
+                missing.push(format!("{number} by the {}", kind.name()));
+            }
+        }
+    }
+    let lines = lines.join("\n");
     Test {
         compared: 0,
         report: if missing.is_empty() {
@@ -91,14 +95,36 @@ fn every_number(numbers: &Numbers) -> Test {
 mod tests {
     use super::*;
 
+    /// Every number of every call once, except one.
+    fn all_but(missing: Option<(Kind, u32)>) -> Numbers {
+        let mut numbers = Numbers::default();
+        for kind in Kind::ALL {
+            for &number in kind.numbers() {
+                if Some((kind, number)) != missing {
+                    numbers.count(kind, number);
+                }
+            }
+        }
+        numbers
+    }
+
     #[test]
     fn a_number_that_never_occurs_is_noticed() {
-        assert!(every_number(&[1; 13]).report.is_ok());
-        for missing in 0..13 {
-            let mut numbers = [1; 13];
-            numbers[missing] = 0;
-            let report = every_number(&numbers).report.expect_err("a number is missing");
-            assert!(report.ends_with(&format!("never answered: {missing}")));
+        assert!(every_number(&all_but(None)).report.is_ok());
+        for kind in Kind::ALL {
+            for &number in kind.numbers() {
+                let numbers = all_but(Some((kind, number)));
+                let report = every_number(&numbers).report.expect_err("a number is missing");
+                let end = format!("never answered: {number} by the {}", kind.name());
+                assert!(report.ends_with(&end), "{report}");
+            }
+        }
+    }
+
+    #[test]
+    fn every_number_of_the_table_is_given_by_some_call() {
+        for number in 0..=16 {
+            assert!(Kind::ALL.iter().any(|kind| kind.numbers().contains(&number)));
         }
     }
 

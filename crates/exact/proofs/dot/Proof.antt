@@ -6,7 +6,7 @@ use borrow.Author.Needs.{needs}
 use lib.ListN.{length}
 use Rattle.residue.specs.Rules.{leastResidue}
 use Rattle.exact.specs.Rules.{productSum, dotProduct}
-use Rattle.exact.specs.Laws.Products.{sum-none, sum-joined}
+use Rattle.exact.specs.Laws.Products.{sum-none, sum-further}
 use Rattle.exact.proofs.dot.Statement.{statement}
 use Rattle.exact.proofs.dot.Tie as tie
 
@@ -25,8 +25,8 @@ loop-holds c = (omega arith, rw (c .shorter .ensures) (min-le-left _ _), rw (c .
 sub-loop : tie.Need-sub-loop Inv-loop μ-loop
 sub-loop c = omega arith
 
-products-requires : tie.Need-products-requires Inv-loop μ-loop
-products-requires c κs = omega arith
+sixty-four-requires : tie.Need-sixty-four-requires Inv-loop μ-loop
+sixty-four-requires c κs = omega arith
 
 wrapping-add-u32-requires : tie.Need-wrapping-add-u32-requires Inv-loop μ-loop
 wrapping-add-u32-requires c κs = search needs
@@ -38,13 +38,13 @@ loop-less : tie.Need-loop-less Inv-loop μ-loop
 loop-less c = omega arith
 
 loop-again : tie.Need-loop-again Inv-loop μ-loop
-loop-again c = let inv = c .before .before .before .loop .inv in (omega arith, inv .1, inv .2, sum-joined _ _ (c .before .before .before .loop .k) _ (inv .3) (c .before .products .ensures) (c .wrapping-add-u32 .ensures))
+loop-again c = let inv = c .before .before .before .loop .inv in (omega arith, inv .1, inv .2, sum-further _ _ (c .before .before .before .loop .k) _ (inv .3) (c .before .sixty-four .ensures) (c .wrapping-add-u32 .ensures))
 
 sub-products : tie.Need-sub-products Inv-loop μ-loop
 sub-products c = omega arith
 
-products-requires-2 : tie.Need-products-requires-2 Inv-loop μ-loop
-products-requires-2 c κs = omega arith
+products-requires : tie.Need-products-requires Inv-loop μ-loop
+products-requires c κs = omega arith
 
 wrapping-add-u32-requires-2 : tie.Need-wrapping-add-u32-requires-2 Inv-loop μ-loop
 wrapping-add-u32-requires-2 c κs = search needs
@@ -52,7 +52,7 @@ wrapping-add-u32-requires-2 c κs = search needs
 returns : tie.Need-returns Inv-loop μ-loop
 unfolding dotProduct
 returns c = 
-    sum-joined _ _ (c .before .before .before .loop .k) _ (c .before .before .before .loop .inv .3) (c .before .products2 .ensures) (c .wrapping-add-u322 .ensures)
+    sum-further _ _ (c .before .before .before .loop .k) _ (c .before .before .before .loop .inv .3) (c .before .products .ensures) (c .wrapping-add-u322 .ensures)
     ∙ ap (λ n. leastResidue (2 ^ 32) (productSum 0 n (c .before .before .before .before .before .args .x .now) (c .before .before .before .before .before .args .y .now))) (omega (arith, c .before .before .before .before .shorter .ensures))
 
 pub dot-spec : {M : Type 1} → statement M
@@ -64,12 +64,12 @@ dot-spec =
     shorter-requires
     loop-holds
     sub-loop
-    products-requires
+    sixty-four-requires
     wrapping-add-u32-requires
     add-k
     loop-less
     loop-again
     sub-products
-    products-requires-2
+    products-requires
     wrapping-add-u32-requires-2
     returns)

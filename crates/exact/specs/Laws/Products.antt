@@ -7,6 +7,7 @@
 --   sum-none         no products come to 0
 --   sum-more         one more product is added
 --   sum-joined       n more products are added
+--   sum-further      the same for a sum from the first number on
 --   dot-is           the rule for two lists of n numbers f 0, f 1, .. and g 0, g 1, ..
 use Prim.Native.Nat.{ℕ, suc, min, _+_, _*_, _%_, _^_, _≤_, _<_}
 use native.Mathlib.Nat.{mul-le-mul, min-eq-left, le-refl}
@@ -67,19 +68,26 @@ module _ (x y : List ℤ) where
         ∙ residue-sum (2 ^ 32) (omega arith) (productSum start k x y) (getD x (start + k) (pos 0) *ℤ getD y (start + k) (pos 0))
       ))
 
-  pub sum-joined : (k n : ℕ) {s b s' : ℕ} → s ≡ leastResidue (2 ^ 32) (productSum 0 k x y)
-      → b ≡ leastResidue (2 ^ 32) (productSum k n x y) → s' ≡ (s + b) % 2 ^ 32
-      → s' ≡ leastResidue (2 ^ 32) (productSum 0 (k + n) x y)
+  pub sum-joined : (start k n : ℕ) {s b s' : ℕ} → s ≡ leastResidue (2 ^ 32) (productSum start k x y)
+      → b ≡ leastResidue (2 ^ 32) (productSum (start + k) n x y) → s' ≡ (s + b) % 2 ^ 32
+      → s' ≡ leastResidue (2 ^ 32) (productSum start (k + n) x y)
   unfolding productSum
-  sum-joined k n s-is b-is added =
-      let all : ℕ → ℤ = λ i. getD x (0 + i) (pos 0) *ℤ getD y (0 + i) (pos 0) in
-      let later : productSum k n x y ≡ sumℤ n (λ i. all (k + i)) =
-      sumℤ-cong n _ _ (λ i l. ap (λ j. getD x j (pos 0) *ℤ getD y j (pos 0)) (omega arith)) in
+  sum-joined start k n s-is b-is added =
+      let all : ℕ → ℤ = λ i. getD x (start + i) (pos 0) *ℤ getD y (start + i) (pos 0) in
+      let later : productSum (start + k) n x y ≡ sumℤ n (λ i. all (k + i)) =
+      sumℤ-cong n _ _ (λ i l. let same : start + k + i ≡ start + (k + i) = omega arith in rw same) in
       added ∙ rw (s-is, b-is, later)
       (sym (
         ap (leastResidue (2 ^ 32)) (sumℤ-split k n all)
-        ∙ residue-sum (2 ^ 32) (omega arith) (productSum 0 k x y) (sumℤ n (λ i. all (k + i)))
+        ∙ residue-sum (2 ^ 32) (omega arith) (productSum start k x y) (sumℤ n (λ i. all (k + i)))
       ))
+
+  pub sum-further : (k n : ℕ) {s b s' : ℕ} → s ≡ leastResidue (2 ^ 32) (productSum 0 k x y)
+      → b ≡ leastResidue (2 ^ 32) (productSum k n x y) → s' ≡ (s + b) % 2 ^ 32
+      → s' ≡ leastResidue (2 ^ 32) (productSum 0 (k + n) x y)
+  sum-further k n s-is b-is added =
+      let same : 0 + k ≡ k = omega arith in
+      sum-joined 0 k n s-is (rw same b-is) added
 
 pub dot-is : (n : ℕ) (x y : List ℤ) (f g : ℕ → ℤ) → length x ≡ n → length y ≡ n → ((k : ℕ) → k < n → getD x k (pos 0) ≡ f k)
     → ((k : ℕ) → k < n → getD y k (pos 0) ≡ g k) → dotProduct x y ≡ leastResidue (2 ^ 32) (sumℤ n (λ k. f k *ℤ g k))

@@ -3,9 +3,12 @@
 --   testedAt b F i r c   the number of record i of b by the form F, which stands in row r, column c
 --   tested b F i         the same, the row and the column from i
 --   partAnswer F a b     the answer of the part that b begins with, of which the first record has the number a
---   Within t F a         t has the part of form F from record a on, and neither is large
+--   Within t F a         t has the part of form F from record a on, neither is large, and the range is within p
+--   Holds b F            b begins with the part of form F, and the same holds
 --   from k t             a slice of t from byte k to the end
 --   rest, from-long      it holds what is left of the bytes
+--   recordOf b i         the bytes of record i of b, as a slice
+--   first-word, last-word   the words of its first four bytes and of its last
 --   header-formed        the form of a record by its first four bytes as one word
 --   tested-misformed, tested-large, tested-outside, tested-passed   the number, as the tests come out in order
 --   Scanned b F i r c    the records before i pass, and i is in row r, column c
@@ -23,7 +26,7 @@ use borrow.Author.Tests.{le-ltb, lt-ltb, eq-eqb, ne-eqb}
 use lib.Dec.{ltb, eqb}
 use lib.IntN.{pos, _+ℤ_}
 use lib.ListN.{length, getD, take, drop, length-drop}
-use lib.Seq.{take-all}
+use lib.Seq.{take-all, getD-drop, getD-take}
 use Rattle.residue.specs.Rules.{modulus, leastResidue}
 use Rattle.residue.specs.Laws.Modulus.{modulus-is, modulus-positive}
 use Rattle.residue.specs.Laws.Residues.{residue-of-natural}
@@ -48,6 +51,15 @@ pub record Within (t : List ℕ) (F : Form) (start : ℕ) : Type 0 where
   pub few : F .rows * F .columns < 2 ^ 16
   pub long : recordBytes * (start + F .rows * F .columns) ≤ length t
   pub small : start < 2 ^ 16
+  pub shift : F .shift ≤ F .limit
+  pub limit : F .limit ≤ 2 ^ 31 - 1
+
+pub record Holds (bytes : List ℕ) (F : Form) : Type 0 where
+  pub columns : 1 ≤ F .columns
+  pub few : F .rows * F .columns < 2 ^ 16
+  pub long : recordBytes * (F .rows * F .columns) ≤ length bytes
+  pub shift : F .shift ≤ F .limit
+  pub limit : F .limit ≤ 2 ^ 31 - 1
 
 abbrev pub from : ℕ → List ℕ → List ℕ
 from k t = take (length t - k) (drop k t)
@@ -57,6 +69,28 @@ rest k t = take-all (length t - k) (drop k t) (omega (arith, length-drop k t))
 
 pub from-long : (k : ℕ) (t : List ℕ) → length (from k t) ≡ length t - k
 from-long k t = rw (rest k t) (length-drop k t)
+
+abbrev pub recordOf : List ℕ → ℕ → List ℕ
+recordOf b i = take (recordBytes * i + recordBytes - recordBytes * i) (drop (recordBytes * i) b)
+
+module _ (b : List ℕ) (i : ℕ) where
+  byte-of : (k : ℕ) → k < recordBytes → getD (recordOf b i) k 0 ≡ getD b (recordBytes * i + k) 0
+  byte-of k l =
+      let within : k < recordBytes * i + recordBytes - recordBytes * i = omega arith in
+      rw (getD-take, getD-drop)
+
+  first-of : getD (recordOf b i) 0 0 ≡ getD b (recordBytes * i) 0
+  first-of = byte-of 0 (omega arith) ∙ ap (λ k. getD b k 0) (omega arith)
+
+  pub first-word : getD (recordOf b i) 0 0 + 256 * getD (recordOf b i) 1 0 + 65_536 * getD (recordOf b i) 2 0 + 16_777_216 * getD (recordOf b i) 3 0
+      ≡ getD b (recordBytes * i) 0 + 256 * getD b (recordBytes * i + 1) 0
+      + 65_536 * getD b (recordBytes * i + 2) 0 + 16_777_216 * getD b (recordBytes * i + 3) 0
+  first-word = omega (arith, first-of, byte-of 1 (omega arith), byte-of 2 (omega arith), byte-of 3 (omega arith))
+
+  pub last-word : getD (recordOf b i) 4 0 + 256 * getD (recordOf b i) 5 0 + 65_536 * getD (recordOf b i) 6 0 + 16_777_216 * getD (recordOf b i) 7 0
+      ≡ valueAt b i
+  unfolding valueAt
+  last-word = omega (arith, byte-of 4 (omega arith), byte-of 5 (omega arith), byte-of 6 (omega arith), byte-of 7 (omega arith))
 
 -- the last byte of a number, and what stands before it
 last-byte : {a b x y : ℕ} → a < 256 → b < 256 → a + 256 * x ≡ b + 256 * y → (a ≡ b) × (x ≡ y)
@@ -94,16 +128,16 @@ word-eqb {a} {b} {c} {d} {e} {f} {g} {h} ha hb hc hd he hf hg hh =
         let three = last-byte hc hg (two .1) in
         (one .0, two .0, three .0, three .1)
 
-module _ (bytes : List ℕ) (F : Form) (i row column : ℕ) where
-  pub header-formed : {header expected : ℕ}
-      → header ≡ getD bytes (recordBytes * i) 0 + 256 * getD bytes (recordBytes * i + 1) 0
-      + 65_536 * getD bytes (recordBytes * i + 2) 0 + 16_777_216 * getD bytes (recordBytes * i + 3) 0
-      → expected ≡ F .kind + 256 * 0 + 65_536 * row + 16_777_216 * column
-      → ((k : ℕ) → getD bytes k 0 < 256) → F .kind < 256 → row < 256 → column < 256
-      → eqb header expected ≡ formed bytes i (F .kind) row column
-  unfolding formed
-  header-formed h e small kind r c = rw (h, e) (word-eqb (small _) (small _) (small _) (small _) kind (omega arith) r c)
+pub header-formed : (bytes : List ℕ) (i : ℕ) {kind row column header expected : ℕ}
+    → header ≡ getD bytes (recordBytes * i) 0 + 256 * getD bytes (recordBytes * i + 1) 0
+    + 65_536 * getD bytes (recordBytes * i + 2) 0 + 16_777_216 * getD bytes (recordBytes * i + 3) 0
+    → expected ≡ kind + 256 * 0 + 65_536 * row + 16_777_216 * column
+    → ((k : ℕ) → getD bytes k 0 < 256) → kind < 256 → row < 256 → column < 256
+    → eqb header expected ≡ formed bytes i kind row column
+unfolding formed
+header-formed bytes i h e small k r c = rw (h, e) (word-eqb (small _) (small _) (small _) (small _) k (omega arith) r c)
 
+module _ (bytes : List ℕ) (F : Form) (i row column : ℕ) where
   pub tested-misformed : formed bytes i (F .kind) row column ≡ false → 5 ≡ testedAt bytes F i row column
   unfolding testedAt numberOf
   tested-misformed e = rw e

@@ -2,8 +2,6 @@
 --
 --   mostEntries      the most entries of an operand
 --   withinAt T x k   entry k of x is at most T in size
---   allWithin T n x  the first n are
---   within-none, within-more   none, and one more
 --   beyondFrom a T x   the refusal by the first entry beyond T, its place counted from a; number 0 where there is none
 --   before-more      one more entry is not beyond the bound
 --   beyond-none, beyond-within   where all are within, there is none
@@ -15,13 +13,12 @@
 --   size-small       the absolute value of a 32-bit number
 --   magnitude-negative, magnitude-fits, magnitude-positive   that value of a number below zero, and of another
 --   residue-negative, residue-fits, residue-positive   the least residue of an entry below zero, and of another
-use Prim.Native.Nat.{ℕ, zero, suc, _+_, _-_, _*_, _≤_, _<_, _^_}
+use Prim.Native.Nat.{ℕ, suc, _+_, _-_, _*_, _≤_, _<_, _^_}
 use native.Mathlib.Decide.{ℕ-discrete, decLe}
 use native.Mathlib.Nat.{mod-eq-of-lt}
-use native.Mathlib.Numerals.{add-one}
 use native.Mathlib.Omega.{arith}
 use mathlib.Core.Path.{_≡_, refl, sym, ap, subst, subst⁻¹, _∙_}
-use mathlib.Core.Bool.{Bool, true, false, true≢false, _&&_, and-eq-true-iff}
+use mathlib.Core.Bool.{Bool, true, false, true≢false}
 use mathlib.Core.List.{List, _++_}
 use borrow.Author.Tests.{le-leb, lt-leb, leb-true, ltb-true, eq-eqb, ne-eqb}
 use lib.Dec.{leb}
@@ -40,6 +37,7 @@ use Rattle.residue.specs.Laws.Signed.{widened, narrowed-is, narrowed-fits}
 use Rattle.ticket.specs.declared.setting.Setting.{Setting}
 use Rattle.ticket.specs.declared.Answer.{Answer}
 use Rattle.ticket.specs.Rules.{unless, refusal, firstRefusal, after}
+use Rattle.ticket.specs.Laws.All.{all, all-at}
 use Rattle.ticket.specs.Laws.Scans.{refusal-none, refusal-is, refusal-cong, refusal-split, after-passed, after-refused}
 use Rattle.writer.specs.Rules.{operandNumber, operandsReading}
 
@@ -54,27 +52,6 @@ residueIn x k = leastResidue modulus (getD x k (pos 0))
 
 abbrev pub withinAt : ℕ → List ℤ → ℕ → Bool
 withinAt bound x k = leb (natAbs (getD x k (pos 0))) bound
-
--- the tests of the first n entries
-unfoldable pub allWithin : ℕ → ℕ → List ℤ → Bool
-allWithin bound zero x = true
-allWithin bound (suc n) x = allWithin bound n x && withinAt bound x n
-
-pub within-none : (bound : ℕ) (x : List ℤ) → true ≡ allWithin bound 0 x
-unfolding allWithin
-within-none bound x = refl
-
-pub within-more : (bound : ℕ) (x : List ℤ) (k : ℕ) {within next : Bool} {size : ℕ} → within ≡ allWithin bound k x
-    → size ≡ natAbs (getD x k (pos 0)) → next ≡ (within && leb size bound) → next ≡ allWithin bound (k + 1) x
-unfolding allWithin
-within-more bound x k e size-is next-is = next-is ∙ rw (e, size-is, add-one)
-
-within-each : (bound n : ℕ) (x : List ℤ) → allWithin bound n x ≡ true → (k : ℕ) → k < n → withinAt bound x k ≡ true
-unfolding allWithin
-within-each bound zero x e k l = absurd (omega arith)
-within-each bound (suc n) x e k l =
-    let h = and-eq-true-iff (allWithin bound n x) (withinAt bound x n) .0 e in
-    elim (ℕ-discrete k n) [ yes same ↦ ap (withinAt bound x) same ∙ h .1 | no other ↦ within-each bound n x (h .0) k (omega arith) ]
 
 -- 14 where entry k is beyond the bound
 abbrev numberAt : ℕ → List ℤ → ℕ → ℕ
@@ -102,8 +79,8 @@ module _ (start bound : ℕ) (x : List ℤ) where
   unfolding beyondFrom
   beyond-none h = sym (refusal-none start (length x) (numberAt bound x) (λ k l. number-within k (le-leb _ _ (h k l))))
 
-  pub beyond-within : {within : Bool} → within ≡ allWithin bound (length x) x → within ≡ true → refusal 0 0 ≡ beyondFrom start bound x
-  beyond-within e t = beyond-none (λ k l. leb-true _ _ (within-each bound (length x) x (sym e ∙ t) k l))
+  pub beyond-within : {within : Bool} → within ≡ all (length x) (withinAt bound x) → within ≡ true → refusal 0 0 ≡ beyondFrom start bound x
+  beyond-within e t = beyond-none (λ k l. leb-true _ _ (all-at (length x) (withinAt bound x) (sym e ∙ t) k l))
 
   pub beyond-at : {k size : ℕ} → k < length x → size ≡ natAbs (getD x k (pos 0))
       → ((i : ℕ) → i < k → natAbs (getD x i (pos 0)) ≤ bound) → bound < size → refusal 14 (start + k) ≡ beyondFrom start bound x

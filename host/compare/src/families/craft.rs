@@ -4,7 +4,7 @@ use apart::examples::{A, B, K};
 use apart::make::{sums, Parts};
 use apart::{Answer, Setting};
 
-use crate::cases::{accepted, caught, Case};
+use crate::cases::{accepted, accepted_in_full, caught, refused, untrue, TicketCase, Visitor};
 use crate::generator::Generator;
 
 pub const P: u32 = apart::P as u32;
@@ -219,9 +219,9 @@ pub fn differences(setting: &Setting, parts: &Parts) -> Vec<i128> {
         .collect()
 }
 
-/// The answer to a ticket within the ranges and a well-formed list, found by the
-/// exact sums and not by u: row i is caught when the differences of the row,
-/// times X, do not add up to 0 modulo p.
+/// The challenge check's answer to a ticket within the ranges and a well-formed
+/// list, found by the exact sums and not by u: row i is caught when the
+/// differences of the row, times X, do not add up to 0 modulo p.
 pub fn by_sums(setting: &Setting, parts: &Parts, list: &[u32]) -> Answer {
     let columns = setting.columns as usize;
     let differences = differences(setting, parts);
@@ -236,9 +236,39 @@ pub fn by_sums(setting: &Setting, parts: &Parts, list: &[u32]) -> Answer {
     accepted(setting)
 }
 
+/// The full check's answer to a ticket whose entries of A and B are within their
+/// range: its first quotient out of range, then its first remainder, then its
+/// first claim that is not true.
+pub fn full_by_sums(setting: &Setting, parts: &Parts) -> Answer {
+    let half = 1 << (setting.width - 1);
+    let alpha = i64::from(setting.scale);
+    let first_quotient = parts.a.len() + parts.b.len();
+    let first_remainder = first_quotient + parts.quotients.len();
+    if let Some(index) = parts.quotients.iter().position(|q| !(-half..half).contains(q)) {
+        return refused(8, first_quotient + index);
+    }
+    if let Some(index) = parts.remainders.iter().position(|r| !(0..alpha).contains(r)) {
+        return refused(9, first_remainder + index);
+    }
+    match differences(setting, parts)
+        .iter()
+        .position(|&difference| difference != 0)
+    {
+        Some(place) => untrue(setting, place),
+        None => accepted_in_full(setting),
+    }
+}
+
+/// Visits both checks of a ticket within the ranges, with a well-formed list.
+pub fn visit_claims(visit: &mut Visitor, what: &'static str, setting: &Setting, parts: &Parts, list: &[u32]) {
+    let case = claims_case(what, setting, parts, list);
+    visit.challenge(&case);
+    visit.full(what, setting, &case.ticket, Some(full_by_sums(setting, parts)));
+}
+
 /// The case of a ticket within the ranges and a well-formed list.
-pub fn claims_case(what: &'static str, setting: &Setting, parts: &Parts, list: &[u32]) -> Case {
-    Case {
+pub fn claims_case(what: &'static str, setting: &Setting, parts: &Parts, list: &[u32]) -> TicketCase {
+    TicketCase {
         what,
         setting: *setting,
         ticket: parts.ticket(setting),
@@ -248,8 +278,8 @@ pub fn claims_case(what: &'static str, setting: &Setting, parts: &Parts, list: &
 }
 
 /// The true ticket of K with X = (1, 2), case c.
-pub fn case_c() -> Case {
-    Case {
+pub fn case_c() -> TicketCase {
+    TicketCase {
         what: "case c",
         setting: K,
         ticket: apart::true_ticket(&K, &A, &B),

@@ -7,13 +7,13 @@ use super::craft::{
     case_c, claims_case, falsify, fitting, list, list_without_zero, set_value, sizes, true_parts, LARGEST, P, SHAPES,
 };
 use super::true_tickets::sizes_and_largest;
-use crate::cases::{caught, refused, Case, Visitor};
+use crate::cases::{caught, refused, untrue, TicketCase, Visitor};
 use crate::generator::Generator;
 
 /// A true ticket with a random list, whose damage is not yet done.
-fn case_to_damage(generator: &mut Generator, setting: &Setting) -> Case {
+fn case_to_damage(generator: &mut Generator, setting: &Setting) -> TicketCase {
     let parts = true_parts(generator, setting);
-    Case {
+    TicketCase {
         what: "damaged",
         setting: *setting,
         ticket: parts.ticket(setting),
@@ -33,7 +33,7 @@ pub fn every_position(visit: &mut Visitor) {
             let others = [right ^ 0xFF, right.wrapping_add(1), right.wrapping_sub(1)];
             for wrong in bits.chain(others) {
                 case.ticket[index] = wrong;
-                visit(&case);
+                visit.checks(&case);
             }
             case.ticket[index] = right;
         }
@@ -46,7 +46,7 @@ pub fn every_position_and_value(visit: &mut Visitor) {
     let mut false_one = case_c();
     set_value(&mut false_one.ticket, 8, residue(-1));
     for (ticket, list) in [(&true_one.ticket, [1, 2]), (&false_one.ticket, [0, 5])] {
-        let mut case = Case {
+        let mut case = TicketCase {
             what: "one byte replaced",
             ticket: ticket.clone(),
             list: list.to_vec(),
@@ -56,7 +56,7 @@ pub fn every_position_and_value(visit: &mut Visitor) {
         for (index, &right) in ticket.iter().enumerate() {
             for value in 0..=255 {
                 case.ticket[index] = value;
-                visit(&case);
+                visit.checks(&case);
             }
             case.ticket[index] = right;
         }
@@ -88,15 +88,18 @@ pub fn last_column_and_row(visit: &mut Visitor) {
                 vector.fill(0);
                 vector[j] = number;
             }
+            let ticket = parts.ticket(&setting);
             for list in [everywhere, there_only] {
-                visit(&Case {
+                visit.challenge(&TicketCase {
                     what: "one untrue claim",
                     setting,
-                    ticket: parts.ticket(&setting),
+                    ticket: ticket.clone(),
                     list,
                     expected: Some(caught(&setting, 0, i)),
                 });
             }
+            let in_full = untrue(&setting, i * columns + j);
+            visit.full("one untrue claim", &setting, &ticket, Some(in_full));
         }
     }
 }
@@ -114,20 +117,20 @@ pub fn last_records(visit: &mut Visitor) {
             for record in [first, last] {
                 set_value(&mut case.ticket, record, out_of_range);
                 case.expected = Some(refused(number, record));
-                visit(&case);
+                visit.checks(&case);
                 set_value(&mut case.ticket, record, P);
                 case.expected = Some(refused(6, record));
-                visit(&case);
+                visit.checks(&case);
                 for small in [0, 1, residue(-1)] {
                     set_value(&mut case.ticket, record, small);
                     case.expected = None;
-                    visit(&case);
+                    visit.checks(&case);
                 }
                 case.ticket.clone_from(&right);
                 for byte in 0..4 {
                     case.ticket[8 * record + byte] ^= 1;
                     case.expected = Some(refused(5, record));
-                    visit(&case);
+                    visit.checks(&case);
                     case.ticket[8 * record + byte] ^= 1;
                 }
             }
@@ -220,7 +223,7 @@ pub fn two_faults(visit: &mut Visitor) {
                             _ => (),
                         }
                         if case.expected.is_some() {
-                            visit(&case);
+                            visit.checks(&case);
                         }
                     }
                 }
@@ -240,9 +243,9 @@ fn visit_faults_of_all(visit: &mut Visitor) {
         falsify(&mut generator, &setting, &mut parts, 0, 0);
         let list = list_without_zero(&mut generator, &setting);
         let mut case = claims_case("faults of all kinds", &setting, &parts, &list);
-        let mut next = |case: &mut Case, expected: Answer| {
+        let mut next = |case: &mut TicketCase, expected: Answer| {
             case.expected = Some(expected);
-            visit(case);
+            visit.checks(case);
         };
         next(&mut case, caught(&setting, 0, 0));
         let last = case.list.len() - 1;

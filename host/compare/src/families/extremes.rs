@@ -4,8 +4,11 @@
 use apart::make::{residue, Parts};
 use apart::Setting;
 
-use super::craft::{by_sums, claims_case, list_without_zero, set_value, sizes, true_parts, LARGEST, P, SHAPES};
-use crate::cases::{refused, Case, Visitor};
+use super::craft::{
+    by_sums, claims_case, full_by_sums, list_without_zero, set_value, sizes, true_parts, visit_claims, LARGEST, P,
+    SHAPES,
+};
+use crate::cases::{refused, TicketCase, Visitor};
 use crate::generator::Generator;
 
 /// Settings at the ends of what fits, and the small shapes.
@@ -56,8 +59,8 @@ pub fn entries(visit: &mut Visitor) {
                 let b: Vec<i64> = (0..inner * columns).map(|index| bound * in_b(index)).collect();
                 let parts = Parts::true_ones(&setting, &a, &b);
                 let list = list_without_zero(&mut generator, &setting);
-                visit(&claims_case("entries T and -T", &setting, &parts, &list));
-                visit(&claims_case(
+                visit_claims(visit, "entries T and -T", &setting, &parts, &list);
+                visit.challenge(&claims_case(
                     "entries T and -T, list of p - 1",
                     &setting,
                     &parts,
@@ -78,7 +81,7 @@ fn visit_extreme_claims(visit: &mut Visitor, setting: &Setting, parts: &Parts, l
             let mut parts = parts.clone();
             parts.quotients.fill(quotient);
             parts.remainders.fill(remainder);
-            visit(&claims_case("claims at their ends", setting, &parts, list));
+            visit_claims(visit, "claims at their ends", setting, &parts, list);
         }
     }
 }
@@ -89,7 +92,7 @@ pub fn values(visit: &mut Visitor) {
     for setting in settings() {
         let right = true_parts(&mut generator, &setting);
         let list = list_without_zero(&mut generator, &setting);
-        let mut case = Case {
+        let mut case = TicketCase {
             what: "an extreme value",
             setting,
             ticket: right.ticket(&setting),
@@ -122,17 +125,19 @@ pub fn values(visit: &mut Visitor) {
                 };
                 *place = entry;
                 set_value(&mut case.ticket, record, residue(entry));
-                case.expected = Some(if in_range {
-                    by_sums(&setting, &parts, &case.list)
+                let (by_list, in_full) = if in_range {
+                    (by_sums(&setting, &parts, &case.list), full_by_sums(&setting, &parts))
                 } else {
-                    refused(number, record)
-                });
-                visit(&case);
+                    (refused(number, record), refused(number, record))
+                };
+                case.expected = Some(by_list);
+                visit.challenge(&case);
+                visit.full(case.what, &setting, &case.ticket, Some(in_full));
             }
             for value in [P, P + 1, 1 << 31, 2 * (P - 1), 2 * P, u32::MAX] {
                 set_value(&mut case.ticket, record, value);
                 case.expected = Some(refused(6, record));
-                visit(&case);
+                visit.checks(&case);
             }
             case.ticket = former;
         }

@@ -5,9 +5,10 @@ use apart::make::Parts;
 use apart::Setting;
 
 use super::craft::{
-    claims_case, differences, falsify, fitting, list, list_without_zero, sizes, sizes_up_to, true_parts, P,
+    claims_case, differences, falsify, fitting, full_by_sums, list, list_without_zero, sizes, sizes_up_to, true_parts,
+    visit_claims, P,
 };
-use crate::cases::{accepted, caught, Case, Visitor};
+use crate::cases::{accepted, caught, untrue, TicketCase, Visitor};
 use crate::generator::Generator;
 
 const SMALL: [u32; 4] = [5, 5, 5, 8];
@@ -15,7 +16,7 @@ const SMALL: [u32; 4] = [5, 5, 5, 8];
 /// Visits a case that is accepted, and the same with one number of the list
 /// changed, which mostly is not.
 fn visit_accepted(visit: &mut Visitor, generator: &mut Generator, setting: &Setting, parts: &Parts, list: &[u32]) {
-    visit(&Case {
+    visit.challenge(&TicketCase {
         what: "false, the list made for it",
         setting: *setting,
         ticket: parts.ticket(setting),
@@ -25,7 +26,7 @@ fn visit_accepted(visit: &mut Visitor, generator: &mut Generator, setting: &Sett
     let mut other = list.to_vec();
     let index = generator.below(other.len());
     other[index] = (other[index] + 1) % P;
-    visit(&claims_case("false, one number changed", setting, parts, &other));
+    visit_claims(visit, "false, one number changed", setting, parts, &other);
 }
 
 /// Some columns are false, in some rows, and X(j) is 0 in each of these.
@@ -185,13 +186,16 @@ pub fn caught_late(visit: &mut Visitor) {
                     for vector in list.chunks_mut(columns).take(t) {
                         vector[j] = 0;
                     }
-                    visit(&Case {
+                    let case = TicketCase {
                         what: "caught in a later vector or row",
                         setting,
                         ticket: parts.ticket(&setting),
                         list,
                         expected: Some(caught(&setting, t, i)),
-                    });
+                    };
+                    visit.challenge(&case);
+                    let in_full = untrue(&setting, i * columns + j);
+                    visit.full(case.what, &setting, &case.ticket, Some(in_full));
                 }
             }
         }
@@ -212,7 +216,9 @@ pub fn small_lists(visit: &mut Visitor) {
         }
         for pick in 0..numbers.len().pow(4) {
             let list = [1, 5, 25, 125].map(|unit| numbers[pick / unit % 5]);
-            visit(&claims_case("false or true again", &setting, &parts, &list));
+            visit.challenge(&claims_case("false or true again", &setting, &parts, &list));
         }
+        let expected = full_by_sums(&setting, &parts);
+        visit.full("false or true again", &setting, &parts.ticket(&setting), Some(expected));
     }
 }

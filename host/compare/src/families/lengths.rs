@@ -4,7 +4,7 @@ use apart::make::ticket_length;
 use apart::Setting;
 
 use super::craft::{list, sizes, true_parts, zeros, LARGEST, SHAPES};
-use crate::cases::{accepted, refused, Case, Visitor};
+use crate::cases::{accepted, accepted_in_full, refused, TicketCase, Visitor};
 use crate::generator::Generator;
 
 /// Every length from 0 to some records past the right one, filled with zeros or
@@ -26,7 +26,7 @@ pub fn tickets(visit: &mut Visitor) {
         };
         for length in lengths {
             for longer in [[0].as_slice(), &ticket] {
-                visit(&Case {
+                let case = TicketCase {
                     what: "cut off or lengthened",
                     setting,
                     ticket: ticket
@@ -41,7 +41,14 @@ pub fn tickets(visit: &mut Visitor) {
                     } else {
                         refused(4, 0)
                     }),
-                });
+                };
+                visit.challenge(&case);
+                let in_full = if length == right {
+                    accepted_in_full(&setting)
+                } else {
+                    refused(4, 0)
+                };
+                visit.full(case.what, &setting, &case.ticket, Some(in_full));
             }
         }
     }
@@ -63,7 +70,7 @@ pub fn other_sizes(visit: &mut Visitor) {
         let ticket = zeros(written);
         for &setting in &settings {
             if ticket_length(&setting) == ticket.len() as u128 {
-                visit(&Case {
+                visit.checks(&TicketCase {
                     what: "zeros of another size",
                     setting,
                     ticket: ticket.clone(),

@@ -1,7 +1,8 @@
-//! Lists of other lengths, and list numbers at and beyond p.
+//! Lists of other lengths, and list numbers at and beyond p. The full check takes
+//! no list, so it is asked once for each ticket.
 
 use super::craft::{list, true_parts, LARGEST, P, SHAPES};
-use crate::cases::{accepted, refused, Case, Visitor};
+use crate::cases::{accepted, accepted_in_full, refused, TicketCase, Visitor};
 use crate::generator::Generator;
 
 /// Every length from 0 to some numbers past the right one.
@@ -9,6 +10,12 @@ pub fn lengths(visit: &mut Visitor) {
     let mut generator = Generator::new(401);
     for setting in SHAPES.into_iter().chain([LARGEST]) {
         let ticket = true_parts(&mut generator, &setting).ticket(&setting);
+        visit.full(
+            "the ticket of the lists",
+            &setting,
+            &ticket,
+            Some(accepted_in_full(&setting)),
+        );
         let right = (setting.vectors * setting.columns) as usize;
         for filling in [0, 1, P - 1, P, u32::MAX] {
             for length in (0..=right + 40).chain([2 * right, 1000]) {
@@ -17,7 +24,7 @@ pub fn lengths(visit: &mut Visitor) {
                     _ if filling < P => accepted(&setting),
                     _ => refused(11, 0),
                 };
-                visit(&Case {
+                visit.challenge(&TicketCase {
                     what: "a list of one number over and over",
                     setting,
                     ticket: ticket.clone(),
@@ -33,13 +40,15 @@ pub fn lengths(visit: &mut Visitor) {
 pub fn numbers(visit: &mut Visitor) {
     let mut generator = Generator::new(402);
     for setting in SHAPES.into_iter().chain([LARGEST]) {
-        let mut case = Case {
+        let mut case = TicketCase {
             what: "one number replaced",
             setting,
             ticket: true_parts(&mut generator, &setting).ticket(&setting),
             list: list(&mut generator, &setting),
             expected: None,
         };
+        let in_full = accepted_in_full(&setting);
+        visit.full("the ticket of the lists", &setting, &case.ticket, Some(in_full));
         for index in 0..case.list.len() {
             let former = case.list[index];
             for number in [0, 1, P - 2, P - 1, P, P + 1, P + 2, u32::MAX - 1, u32::MAX] {
@@ -49,7 +58,7 @@ pub fn numbers(visit: &mut Visitor) {
                 } else {
                     refused(11, index)
                 });
-                visit(&case);
+                visit.challenge(&case);
             }
             // The first index decides, also where the later number is the
             // larger one.
@@ -58,7 +67,7 @@ pub fn numbers(visit: &mut Visitor) {
             case.list[later] = u32::MAX;
             case.list[index] = P;
             case.expected = Some(refused(11, index));
-            visit(&case);
+            visit.challenge(&case);
             case.list[later] = former_later;
             case.list[index] = former;
         }

@@ -2,9 +2,10 @@
 //! random, none, one or several.
 
 use apart::examples::K;
+use apart::Setting;
 
 use super::craft::{claims_case, falsify, fitting, list, set_value, sizes, sizes_up_to, true_parts, FIELDS, P};
-use crate::cases::{Case, Visitor};
+use crate::cases::{TicketCase, Visitor};
 use crate::generator::Generator;
 
 pub fn small(visit: &mut Visitor) {
@@ -31,13 +32,13 @@ fn tickets(visit: &mut Visitor, seed: u64, count: usize, most: [u32; 4]) {
             case.what = "damaged at random";
             case.expected = None;
         }
-        visit(&case);
+        visit.checks(&case);
     }
 }
 
 /// A ticket within the ranges, one in two of them false in one place or several,
 /// with a list that is well formed and often has zeros.
-fn within_ranges(generator: &mut Generator, most: [u32; 4]) -> Case {
+fn within_ranges(generator: &mut Generator, most: [u32; 4]) -> TicketCase {
     let sizes_of_ticket = sizes_up_to(generator, most);
     let setting = fitting(generator, sizes_of_ticket);
     let [rows, _, columns, _] = sizes(&setting);
@@ -59,7 +60,7 @@ fn within_ranges(generator: &mut Generator, most: [u32; 4]) -> Case {
     claims_case("within the ranges, random", &setting, &parts, &list)
 }
 
-type Damage = fn(&mut Generator, &mut Case);
+type Damage = fn(&mut Generator, &mut TicketCase);
 
 const DAMAGES: [Damage; 11] = [
     one_byte,
@@ -80,26 +81,26 @@ fn index(generator: &mut Generator, length: usize) -> Option<usize> {
     (length > 0).then(|| generator.below(length))
 }
 
-fn one_byte(generator: &mut Generator, case: &mut Case) {
+fn one_byte(generator: &mut Generator, case: &mut TicketCase) {
     if let Some(index) = index(generator, case.ticket.len()) {
         case.ticket[index] = generator.word() as u8;
     }
 }
 
-fn one_bit(generator: &mut Generator, case: &mut Case) {
+fn one_bit(generator: &mut Generator, case: &mut TicketCase) {
     if let Some(index) = index(generator, case.ticket.len()) {
         case.ticket[index] ^= 1 << generator.below(8);
     }
 }
 
-fn one_value(generator: &mut Generator, case: &mut Case) {
+fn one_value(generator: &mut Generator, case: &mut TicketCase) {
     if let Some(record) = index(generator, case.ticket.len() / 8) {
         let value = generator.word() >> generator.below(32);
         set_value(&mut case.ticket, record, value);
     }
 }
 
-fn value_near_a_limit(generator: &mut Generator, case: &mut Case) {
+fn value_near_a_limit(generator: &mut Generator, case: &mut TicketCase) {
     if let Some(record) = index(generator, case.ticket.len() / 8) {
         let half = 1 << (case.setting.width.clamp(1, 30) - 1);
         let limits = [0, case.setting.bound, case.setting.scale, half, 2 * half, P];
@@ -114,7 +115,7 @@ fn value_near_a_limit(generator: &mut Generator, case: &mut Case) {
     }
 }
 
-fn two_records_change_places(generator: &mut Generator, case: &mut Case) {
+fn two_records_change_places(generator: &mut Generator, case: &mut TicketCase) {
     let records = case.ticket.len() / 8;
     if let (Some(one), Some(two)) = (index(generator, records), index(generator, records)) {
         for byte in 0..8 {
@@ -123,14 +124,14 @@ fn two_records_change_places(generator: &mut Generator, case: &mut Case) {
     }
 }
 
-fn one_record_over_another(generator: &mut Generator, case: &mut Case) {
+fn one_record_over_another(generator: &mut Generator, case: &mut TicketCase) {
     let records = case.ticket.len() / 8;
     if let (Some(from), Some(to)) = (index(generator, records), index(generator, records)) {
         case.ticket.copy_within(8 * from..8 * from + 8, 8 * to);
     }
 }
 
-fn other_ticket_length(generator: &mut Generator, case: &mut Case) {
+fn other_ticket_length(generator: &mut Generator, case: &mut TicketCase) {
     let length = case.ticket.len();
     let other = match generator.below(4) {
         0 => generator.below(length + 1),
@@ -141,7 +142,7 @@ fn other_ticket_length(generator: &mut Generator, case: &mut Case) {
     case.ticket.resize(other, 0);
 }
 
-fn other_list_length(generator: &mut Generator, case: &mut Case) {
+fn other_list_length(generator: &mut Generator, case: &mut TicketCase) {
     let length = case.list.len();
     let other = match generator.below(3) {
         0 => generator.below(length + 1),
@@ -151,7 +152,7 @@ fn other_list_length(generator: &mut Generator, case: &mut Case) {
     case.list.resize(other, 0);
 }
 
-fn one_list_number(generator: &mut Generator, case: &mut Case) {
+fn one_list_number(generator: &mut Generator, case: &mut TicketCase) {
     if let Some(index) = index(generator, case.list.len()) {
         case.list[index] = match generator.below(3) {
             0 => generator.word(),
@@ -161,12 +162,12 @@ fn one_list_number(generator: &mut Generator, case: &mut Case) {
     }
 }
 
-fn one_number_of_the_setting(generator: &mut Generator, case: &mut Case) {
+fn one_number_of_the_setting(generator: &mut Generator, case: &mut TicketCase) {
     let field = &FIELDS[generator.below(FIELDS.len())];
     *(field.of)(&mut case.setting) = generator.word() >> generator.below(32);
 }
 
-fn one_number_of_the_setting_by_one(generator: &mut Generator, case: &mut Case) {
+fn one_number_of_the_setting_by_one(generator: &mut Generator, case: &mut TicketCase) {
     let field = &FIELDS[generator.below(FIELDS.len())];
     let number = (field.of)(&mut case.setting);
     *number = match generator.below(2) {
@@ -175,28 +176,34 @@ fn one_number_of_the_setting_by_one(generator: &mut Generator, case: &mut Case) 
     };
 }
 
-/// Settings of random numbers, mostly within the limits, with no byte or
-/// with zeros, so that the tests 1 to 5 decide.
+/// A setting of random numbers, mostly within the limits.
+pub fn random_setting(generator: &mut Generator) -> Setting {
+    let mut setting = K;
+    for field in &FIELDS {
+        let [least, greatest] = [field.least, field.greatest].map(i64::from);
+        *(field.of)(&mut setting) = match generator.below(32) {
+            0 => generator.word(),
+            1 => generator.word() >> generator.below(32),
+            2 => generator.between(least - 1, least) as u32,
+            3 => generator.between(greatest, greatest + 1) as u32,
+            // Any number of bits, since small bounds fit more often.
+            _ => {
+                let bits = generator.between(0, 16);
+                generator.between(least, greatest.min(least + (1 << bits) - 1)) as u32
+            }
+        };
+    }
+    setting
+}
+
+/// Settings of random numbers with no byte or with zeros, so that the tests 1 to
+/// 5 decide.
 pub fn settings(visit: &mut Visitor) {
     let mut generator = Generator::new(704);
     for round in 0..400_000 {
-        let mut setting = K;
-        for field in &FIELDS {
-            let [least, greatest] = [field.least, field.greatest].map(i64::from);
-            *(field.of)(&mut setting) = match generator.below(32) {
-                0 => generator.word(),
-                1 => generator.word() >> generator.below(32),
-                2 => generator.between(least - 1, least) as u32,
-                3 => generator.between(greatest, greatest + 1) as u32,
-                // Any number of bits, since small bounds fit more often.
-                _ => {
-                    let bits = generator.between(0, 16);
-                    generator.between(least, greatest.min(least + (1 << bits) - 1)) as u32
-                }
-            };
-        }
+        let setting = random_setting(&mut generator);
         let length = if round % 2 == 0 { 0 } else { generator.below(257) };
-        visit(&Case {
+        visit.checks(&TicketCase {
             what: "a random setting",
             setting,
             ticket: vec![0; length],

@@ -4,8 +4,9 @@ use apart::examples::K;
 use apart::make::{ticket_length, Parts};
 use apart::{Answer, Setting};
 
-use super::craft::{fits, slack, zeros, Field, FIELDS, LARGEST, P, SHAPES};
-use crate::cases::{accepted, refused, Case, Visitor};
+use super::craft::{fits, sizes, slack, zeros, Field, FIELDS, LARGEST, P, SHAPES};
+use super::writer::writer_case;
+use crate::cases::{accepted, accepted_in_full, refused, TicketCase, Visitor, WriterCase, Writing};
 
 /// The values to try in a number of the setting.
 fn values(field: &Field) -> Vec<u32> {
@@ -40,50 +41,67 @@ fn values(field: &Field) -> Vec<u32> {
     values
 }
 
-/// The refusal of a setting outside its limits.
-fn refusal(setting: &Setting) -> Option<u32> {
-    FIELDS
+/// The refusal of a setting, by the limits and by fitting.
+pub fn refusal(setting: &Setting) -> Option<Answer> {
+    let outside = FIELDS
         .iter()
         .filter(|field| {
             let number = *(field.of)(&mut setting.clone());
             number < field.least || field.greatest < number
         })
         .map(|field| field.refusal)
-        .min()
-}
-
-/// The stated answer to a setting with a ticket of zeros and a list to match, if
-/// they do, and to no byte otherwise.
-fn stated(setting: &Setting, matching: bool) -> Answer {
-    match refusal(setting) {
-        Some(number) => refused(number, 0),
-        None if !fits(setting) => refused(3, 0),
-        None if matching => accepted(setting),
-        None => refused(4, 0),
+        .min();
+    match outside {
+        Some(number) => Some(refused(number, 0)),
+        None if !fits(setting) => Some(refused(3, 0)),
+        None => None,
     }
 }
 
-/// A setting with no byte and with a ticket and a list that match it, where they
-/// are not above this length.
+/// A setting with nothing beside it and with a ticket, a list and operands that
+/// match it, where they are not above this length. The ticket is the one of zeros
+/// only, which is true.
 fn visit_setting(visit: &mut Visitor, setting: Setting, longest: u128) {
-    visit(&Case {
+    let refusal = refusal(&setting);
+    visit.checks(&TicketCase {
         what: "no byte",
         setting,
         ticket: Vec::new(),
         list: Vec::new(),
         // A ticket without a record matches when two of the sizes are 0, and
         // such a setting is refused.
-        expected: Some(stated(&setting, false)),
+        expected: Some(refusal.unwrap_or(refused(4, 0))),
+    });
+    visit.write(&WriterCase {
+        what: "no operand",
+        setting,
+        a: Vec::new(),
+        b: Vec::new(),
+        output: Vec::new(),
+        expected: Some(Writing::Refusal(refusal.unwrap_or(refused(13, 0)))),
     });
     let numbers = u128::from(setting.vectors) * u128::from(setting.columns);
     if ticket_length(&setting) <= longest && numbers <= longest {
-        visit(&Case {
+        let ticket = zeros(&setting);
+        let [rows, inner, columns, _] = sizes(&setting);
+        visit.write(&WriterCase {
+            what: "operands of zeros and an output that match",
+            setting,
+            a: vec![0; rows * inner],
+            b: vec![0; inner * columns],
+            output: vec![0xC3; ticket.len()],
+            expected: Some(refusal.map_or_else(|| Writing::Ticket(ticket.clone()), Writing::Refusal)),
+        });
+        let case = TicketCase {
             what: "a ticket of zeros and a list that match",
             setting,
-            ticket: zeros(&setting),
+            ticket,
             list: vec![1; numbers as usize],
-            expected: Some(stated(&setting, true)),
-        });
+            expected: Some(refusal.unwrap_or_else(|| accepted(&setting))),
+        };
+        visit.challenge(&case);
+        let in_full = refusal.unwrap_or_else(|| accepted_in_full(&setting));
+        visit.full(case.what, &setting, &case.ticket, Some(in_full));
     }
 }
 
@@ -178,21 +196,26 @@ fn visit_greatest_sums(visit: &mut Visitor, setting: Setting) {
         _ => "near an edge of fitting",
     };
     let bound = i64::from(setting.bound);
-    let expected = if fits(&setting) {
-        accepted(&setting)
-    } else {
-        refused(3, 0)
-    };
+    let refusal = (!fits(&setting)).then(|| refused(3, 0));
     for sign in [-1, 1] {
         let a = vec![bound; setting.inner as usize];
         let b = vec![sign * bound; setting.inner as usize];
-        visit(&Case {
+        let parts = Parts::true_ones(&setting, &a, &b);
+        let case = TicketCase {
             what,
             setting,
-            ticket: Parts::true_ones(&setting, &a, &b).ticket(&setting),
+            ticket: parts.ticket(&setting),
             list: vec![P - 1],
-            expected: Some(expected),
-        });
+            expected: Some(refusal.unwrap_or_else(|| accepted(&setting))),
+        };
+        visit.challenge(&case);
+        let in_full = refusal.unwrap_or_else(|| accepted_in_full(&setting));
+        visit.full(what, &setting, &case.ticket, Some(in_full));
+        let mut written = writer_case(what, &setting, &parts, vec![0xC3; case.ticket.len()]);
+        if let Some(refusal) = refusal {
+            written.expected = Some(Writing::Refusal(refusal));
+        }
+        visit.write(&written);
     }
 }
 
@@ -205,7 +228,7 @@ mod tests {
     fn the_edge_is_met_from_both_sides() {
         let mut slacks = [0; 3];
         let mut by_second = [0; 2];
-        edge_of_fitting(&mut |case| {
+        edge_of_fitting(&mut Visitor(&mut |case| {
             let slack = slack(&case.setting);
             if (-1..=1).contains(&slack) {
                 slacks[(slack + 1) as usize] += 1;
@@ -213,7 +236,7 @@ mod tests {
             if slack >= 0 {
                 by_second[usize::from(fits(&case.setting))] += 1;
             }
-        });
+        }));
         assert!(slacks.iter().all(|&count| count > 20), "{slacks:?}");
         assert!(by_second.iter().all(|&count| count > 100), "{by_second:?}");
     }

@@ -1,14 +1,15 @@
-//! True tickets, which every well-formed list is accepted with.
+//! True tickets, which every well-formed list is accepted with, and which the
+//! full check accepts.
 
 use apart::Setting;
 
-use super::craft::{claims_case, fitting, list, sizes, true_parts, LARGEST, P};
-use crate::cases::{accepted, Case, Visitor};
+use super::craft::{claims_case, fitting, full_by_sums, list, sizes, true_parts, LARGEST, P};
+use crate::cases::{accepted, accepted_in_full, TicketCase, Visitor};
 use crate::generator::Generator;
 
 /// Lists of each kind: random, one number over and over, one number that is not
 /// 0 in each vector.
-fn lists(generator: &mut Generator, setting: &Setting) -> Vec<Vec<u32>> {
+pub fn lists(generator: &mut Generator, setting: &Setting) -> Vec<Vec<u32>> {
     let [_, _, columns, vectors] = sizes(setting);
     let count = vectors * columns;
     let mut lists = vec![
@@ -25,18 +26,20 @@ fn lists(generator: &mut Generator, setting: &Setting) -> Vec<Vec<u32>> {
     lists
 }
 
+/// Every list is accepted with the ticket, and the full check accepts it.
 fn visit_true(visit: &mut Visitor, generator: &mut Generator, setting: &Setting) {
-    let parts = true_parts(generator, setting);
-    let ticket = parts.ticket(setting);
+    let mut case = TicketCase {
+        what: "true",
+        setting: *setting,
+        ticket: true_parts(generator, setting).ticket(setting),
+        list: Vec::new(),
+        expected: Some(accepted(setting)),
+    };
     for list in lists(generator, setting) {
-        visit(&Case {
-            what: "true",
-            setting: *setting,
-            ticket: ticket.clone(),
-            list,
-            expected: Some(accepted(setting)),
-        });
+        case.list = list;
+        visit.challenge(&case);
     }
+    visit.full("true", setting, &case.ticket, Some(accepted_in_full(setting)));
 }
 
 /// Sizes at, next to and between the limits, up to the largest with every number
@@ -78,7 +81,9 @@ pub fn small_sizes(visit: &mut Visitor) {
         let setting = fitting(&mut generator, sizes);
         let parts = true_parts(&mut generator, &setting);
         for list in lists(&mut generator, &setting) {
-            visit(&claims_case("true", &setting, &parts, &list));
+            visit.challenge(&claims_case("true", &setting, &parts, &list));
         }
+        let expected = full_by_sums(&setting, &parts);
+        visit.full("true", &setting, &parts.ticket(&setting), Some(expected));
     }
 }

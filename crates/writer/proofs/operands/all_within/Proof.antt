@@ -1,24 +1,26 @@
 use Prim.Native.Nat.{_-_, _≤_}
 use native.Mathlib.Omega.{arith}
-use mathlib.Core.Path.{_≡_, refl, ap, _∙_}
+use mathlib.Core.Path.{_≡_, ap, _∙_}
 use borrow.Author.Needs.{needs}
+use lib.Dec.{leb}
 use lib.IntN.{pos, natAbs}
 use lib.ListN.{length, getD}
 use mir.Syntax.{w32}
 use mir.Val.{toZ, ofZ}
 use mir.Facts.{toZ-ofZ}
-use Rattle.writer.specs.Laws.Operands.{allWithin, within-none, within-more}
+use Rattle.ticket.specs.Laws.All.{all, all-none, all-next}
+use Rattle.writer.specs.Laws.Operands.{withinAt}
 use Rattle.writer.proofs.operands.all_within.Statement.{statement}
 use Rattle.writer.proofs.operands.all_within.Tie as tie
 
 abbrev Inv-loop : tie.InvT-loop
-Inv-loop operand bound within₀ k₀ within k = (k ≤ length operand) × (within ≡ allWithin bound k operand)
+Inv-loop operand bound within₀ k₀ within k = (k ≤ length operand) × (within ≡ all k (withinAt bound operand))
 
 abbrev μ-loop : tie.MeasureT-loop
 μ-loop operand bound within₀ k₀ within k = length operand - k
 
 loop-holds : tie.Need-loop-holds Inv-loop μ-loop
-loop-holds c = (omega arith, within-none _ _)
+loop-holds c = (omega arith, all-none _)
 
 mul-magnitude : tie.Need-mul-magnitude Inv-loop μ-loop
 mul-magnitude c = omega arith
@@ -39,10 +41,10 @@ loop-less : tie.Need-loop-less Inv-loop μ-loop
 loop-less c = omega arith
 
 loop-again : tie.Need-loop-again Inv-loop μ-loop
-loop-again c = (omega arith, within-more _ _ (c .before .before .before .loop .k) (c .before .before .before .loop .inv .1) (c .magnitude .ensures ∙ ap natAbs (entry-is (c .before))) refl)
+loop-again c = (omega arith, all-next (c .before .before .before .loop .k) _ (c .before .before .before .loop .inv .1) (ap (λ n. leb n (c .before .before .before .before .args .bound)) (c .magnitude .ensures ∙ ap natAbs (entry-is (c .before)))))
 
 returns : tie.Need-returns Inv-loop μ-loop
-returns c = c .before .loop .inv .1 ∙ ap (λ n. allWithin (c .before .before .args .bound) n (c .before .before .args .operand .now)) (omega arith)
+returns c = c .before .loop .inv .1 ∙ ap (λ n. all n (withinAt (c .before .before .args .bound) (c .before .before .args .operand .now))) (omega arith)
 
 pub all-within-spec : {M : Type 1} → statement M
 all-within-spec =

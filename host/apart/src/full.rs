@@ -1,0 +1,57 @@
+//! "The full check takes setting and ticket."
+
+use crate::answer::Refusal;
+use crate::matrix::exact_sum;
+use crate::ticket::{self, Part, Ticket};
+use crate::{Answer, Setting};
+
+/// The answer to a setting and the bytes of a ticket, by the order "1, 2, 3, 4;
+/// then record after record, each by 5, 6 and its own range; then 10, 11, 12
+/// (16 in the full check, which takes no list)".
+pub fn full_check(setting: &Setting, ticket: &[u8]) -> Answer {
+    decide(setting, ticket).unwrap_or_else(Answer::from)
+}
+
+fn decide(setting: &Setting, ticket: &[u8]) -> Result<Answer, Refusal> {
+    setting.test()?;
+    let ticket = ticket::read(setting, ticket)?;
+    Ok(compare(setting, &ticket))
+}
+
+/// "It computes each S and compares, row by row". "The claim there is true when
+/// αq + r = S".
+fn compare(setting: &Setting, ticket: &Ticket) -> Answer {
+    let first_untrue = Part::Quotients
+        .places(setting)
+        .find(|&(i, j)| ticket.claims.entry(i, j) != exact_sum(&ticket.a, &ticket.b, i, j));
+    match first_untrue {
+        Some((i, j)) => untrue(setting, i, j),
+        None => accepted(setting),
+    }
+}
+
+/// "accepted is 0, 0, 0, ℓmn." The sizes are within their limits here, so no
+/// count comes near the end of `u32`.
+fn accepted(setting: &Setting) -> Answer {
+    Answer {
+        number: 0,
+        place: 0,
+        row: 0,
+        products: setting.rows * setting.inner * setting.columns,
+    }
+}
+
+/// "The first untrue claim, at i, j, is number 16 with place i·n + j, row 0 and
+/// products m(i·n + j + 1)."
+fn untrue(setting: &Setting, i: u32, j: u32) -> Answer {
+    let place = i * setting.columns + j;
+    Answer {
+        number: 16,
+        place,
+        row: 0,
+        products: setting.inner * (place + 1),
+    }
+}
+
+#[cfg(test)]
+mod tests;

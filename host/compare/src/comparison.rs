@@ -1,0 +1,354 @@
+//! The comparison of both sides on a family of cases.
+
+use std::fmt::{self, Display, Formatter};
+
+use apart::Answer;
+
+use crate::cases::{Call, Case, Family, Kind, Reply, Side, Visitor, GUARD};
+use crate::outcome::Test;
+
+/// How often the library answered each number from 0 to 16, for each call in the
+/// order of `Kind::ALL`. Any other number is a difference, and so is not counted.
+#[derive(Clone, Debug, Default, PartialEq, Eq)]
+pub struct Numbers([[u64; 17]; 3]);
+
+impl Numbers {
+    pub fn count(&mut self, kind: Kind, number: u32) {
+        if let Some(count) = self.0[kind as usize].get_mut(number as usize) {
+            *count += 1;
+        }
+    }
+
+    pub fn of(&self, kind: Kind, number: u32) -> u64 {
+        self.0[kind as usize][number as usize]
+    }
+
+    pub fn add(&mut self, others: &Numbers) {
+        for (total, count) in self.0.iter_mut().flatten().zip(others.0.iter().flatten()) {
+            *total += count;
+        }
+    }
+}
+
+/// What the comparison of a family found.
+pub struct Outcome {
+    pub compared: u64,
+    pub differing: u64,
+    /// The first case whose replies are not all the same.
+    pub first: Option<String>,
+    pub numbers: Numbers,
+}
+
+/// Compares the two sides on every case of a family.
+pub fn compare(family: &Family, library: Side, apart: Side) -> Outcome {
+    let mut outcome = Outcome {
+        compared: 0,
+        differing: 0,
+        first: None,
+        numbers: Numbers::default(),
+    };
+    (family.visit)(&mut Visitor(&mut |case| {
+        let (by_library, by_apart) = (library(case), apart(case));
+        outcome.numbers.count(case.kind(), by_library.answer.number);
+        let right = case.expected.as_ref().unwrap_or(&by_apart);
+        if by_library != *right || by_apart != *right {
+            outcome.differing += 1;
+            outcome.first.get_or_insert_with(|| {
+                Difference {
+                    index: outcome.compared,
+                    case,
+                    library: &by_library,
+                    apart: &by_apart,
+                }
+                .to_string()
+            });
+        }
+        outcome.compared += 1;
+    }));
+    outcome
+}
+
+impl Outcome {
+    pub fn test(&self, family: &Family) -> Test {
+        let Outcome {
+            compared, differing, ..
+        } = self;
+        Test {
+            compared: *compared,
+            report: match &self.first {
+                None if *compared == 0 => Err(format!("{}: no case", family.name)),
+                None => Ok(format!("{}: {compared} cases, no difference", family.name)),
+                Some(first) => Err(format!(
+                    "{}: {compared} cases, {differing} with a wrong reply, the first is\n{first}",
+                    family.name
+                )),
+            },
+        }
+    }
+}
+
+/// A case whose replies are not all the same.
+struct Difference<'a> {
+    /// Its index in the family.
+    index: u64,
+    case: &'a Case<'a>,
+    library: &'a Reply,
+    apart: &'a Reply,
+}
+
+impl Display for Difference<'_> {
+    fn fmt(&self, f: &mut Formatter) -> fmt::Result {
+        let Case {
+            what,
+            setting,
+            call,
+            expected,
+        } = self.case;
+        writeln!(f, "  case {}, {}: {what}", self.index, self.case.kind().name())?;
+        writeln!(
+            f,
+            "  setting: rows {}, inner {}, columns {}, vectors {}, scale {}, bound {}, width {}",
+            setting.rows, setting.inner, setting.columns, setting.vectors, setting.scale, setting.bound, setting.width
+        )?;
+        match call {
+            Call::Challenge { ticket, list } => {
+                write_ticket(f, ticket)?;
+                writeln!(f, "  list: {} numbers {list:?}", list.len())?;
+            }
+            Call::Full { ticket } => write_ticket(f, ticket)?,
+            Call::Writer { a, b, output } => {
+                write_operand(f, "A", a)?;
+                write_operand(f, "B", b)?;
+                writeln!(f, "  output: {} bytes", output.len())?;
+            }
+        }
+        let replies = [
+            ("stated: ", expected.as_ref()),
+            ("library:", Some(self.library)),
+            ("apart:  ", Some(self.apart)),
+        ];
+        let right = expected.as_ref().unwrap_or(self.apart);
+        let lines = replies.into_iter().filter_map(|(name, reply)| {
+            let reply = reply?;
+            let byte = first_other_byte(&reply.buffer, &right.buffer);
+            Some(format!("  {name} {}{}", line(&reply.answer), byte.unwrap_or_default()))
+        });
+        write!(f, "{}", lines.collect::<Vec<_>>().join("\n"))
+    }
+}
+
+/// Longer tickets and operands would only hide the rest; the seeds are fixed, so
+/// the case can be made again.
+const LONGEST_TICKET: usize = 512;
+const LONGEST_OPERAND: usize = 64;
+
+fn write_ticket(f: &mut Formatter, ticket: &[u8]) -> fmt::Result {
+    writeln!(f, "  ticket: {} bytes", ticket.len())?;
+    if ticket.len() <= LONGEST_TICKET {
+        for (index, record) in ticket.chunks(8).enumerate() {
+            write!(f, "    {index:3}:")?;
+            for byte in record {
+                write!(f, " {byte:02X}")?;
+            }
+            writeln!(f)?;
+        }
+    }
+    Ok(())
+}
+
+fn write_operand(f: &mut Formatter, name: &str, operand: &[i32]) -> fmt::Result {
+    write!(f, "  {name}: {} numbers", operand.len())?;
+    if operand.len() <= LONGEST_OPERAND {
+        write!(f, " {operand:?}")?;
+    }
+    writeln!(f)
+}
+
+/// Where a writer's buffer is first not the right one, counted from the
+/// beginning of the output.
+fn first_other_byte(buffer: &[u8], right: &[u8]) -> Option<String> {
+    let index = buffer.iter().zip(right).position(|(one, other)| one != other)?;
+    Some(format!(
+        ", byte {} of the output is {:02X} and not {:02X}",
+        index as i64 - GUARD.len() as i64,
+        buffer[index],
+        right[index]
+    ))
+}
+
+/// An answer as the program prints it.
+fn line(answer: &Answer) -> String {
+    let Answer {
+        number,
+        place,
+        row,
+        products,
+    } = answer;
+    format!("{number} {place} {row} {products}")
+}
+
+#[cfg(test)]
+mod tests {
+    use super::*;
+    use crate::cases::apart;
+    use crate::families::craft::case_c;
+    use crate::families::writer::writer_case_b;
+
+    const CHALLENGE: Family = Family {
+        name: "one challenge check",
+        visit: |visit| visit.challenge(&case_c()),
+    };
+    const FULL: Family = Family {
+        name: "one full check",
+        visit: |visit| {
+            let case = case_c();
+            let accepted = Answer::from([0, 0, 0, 8]);
+            visit.full("case b", &case.setting, &case.ticket, Some(accepted));
+        },
+    };
+    const WRITER: Family = Family {
+        name: "one ticket written",
+        visit: |visit| visit.write(&writer_case_b(2)),
+    };
+
+    fn one_product_more(case: &Case) -> Reply {
+        let mut reply = apart(case);
+        reply.answer.products += 1;
+        reply
+    }
+
+    /// The byte of the buffer at this distance from the beginning of the output.
+    fn byte_changed(case: &Case, index: i64) -> Reply {
+        let mut reply = apart(case);
+        reply.buffer[(GUARD.len() as i64 + index) as usize] ^= 1;
+        reply
+    }
+
+    #[test]
+    fn the_right_reply_passes() {
+        for (family, kind) in [(CHALLENGE, Kind::Challenge), (FULL, Kind::Full), (WRITER, Kind::Writer)] {
+            let outcome = compare(&family, apart, apart);
+            assert_eq!((outcome.compared, outcome.differing), (1, 0));
+            for each in Kind::ALL {
+                assert_eq!(outcome.numbers.of(each, 0), u64::from(each == kind));
+            }
+            assert!(outcome.test(&family).report.is_ok());
+        }
+    }
+
+    fn report(family: &Family, library: Side) -> String {
+        let outcome = compare(family, library, apart);
+        assert_eq!((outcome.compared, outcome.differing), (1, 1));
+        outcome.test(family).report.expect_err("the replies differ")
+    }
+
+    fn assert_parts(report: &str, parts: &[&str]) {
+        for part in parts {
+            assert!(report.contains(part), "{part} is not in\n{report}");
+        }
+    }
+
+    /// A comparison that could not fail would be no test.
+    #[test]
+    fn a_wrong_answer_is_noticed() {
+        let setting = "setting: rows 2, inner 2, columns 2, vectors 1, scale 10, bound 8, width 5";
+        let record_8 = "8: 03 00 00 00 FD FF FF 7F";
+        assert_parts(
+            &report(&CHALLENGE, one_product_more),
+            &[
+                "challenge check: case c",
+                setting,
+                record_8,
+                "list: 2 numbers [1, 2]",
+                "library: 0 0 0 13",
+                "apart:   0 0 0 12",
+            ],
+        );
+        assert_parts(
+            &report(&FULL, one_product_more),
+            &[
+                "full check: case b",
+                setting,
+                record_8,
+                "library: 0 0 0 9",
+                "apart:   0 0 0 8",
+            ],
+        );
+        assert_parts(
+            &report(&WRITER, one_product_more),
+            &[
+                "writer: case b",
+                setting,
+                "A: 4 numbers [3, -2, 5, 4]",
+                "B: 4 numbers [-1, 6, 7, -8]",
+                "output: 130 bytes",
+                "library: 0 128 0 9",
+                "apart:   0 128 0 8",
+            ],
+        );
+    }
+
+    #[test]
+    fn a_wrong_byte_is_noticed() {
+        let wrong: [(Side, &str); 6] = [
+            (
+                |case| byte_changed(case, -13),
+                "byte -13 of the output is 5B and not 5A",
+            ),
+            (|case| byte_changed(case, -1), "byte -1 of the output is 5B and not 5A"),
+            (|case| byte_changed(case, 0), "byte 0 of the output is 00 and not 01"),
+            (
+                |case| byte_changed(case, 127),
+                "byte 127 of the output is 01 and not 00",
+            ),
+            (|case| byte_changed(case, 129), "byte 129 of the output is"),
+            (
+                |case| byte_changed(case, 130),
+                "byte 130 of the output is 5B and not 5A",
+            ),
+        ];
+        for (library, part) in wrong {
+            assert_parts(&report(&WRITER, library), &["library: 0 128 0 8", part]);
+        }
+    }
+
+    #[test]
+    fn the_same_wrong_reply_on_both_sides_is_noticed() {
+        let first_byte: Side = |case| byte_changed(case, 0);
+        for (family, side) in [
+            (CHALLENGE, one_product_more as Side),
+            (FULL, one_product_more),
+            (WRITER, one_product_more),
+            (WRITER, first_byte),
+        ] {
+            let outcome = compare(&family, side, side);
+            assert_eq!((outcome.compared, outcome.differing), (1, 1));
+        }
+    }
+
+    #[test]
+    fn a_family_without_a_case_fails() {
+        let none = Family {
+            name: "none",
+            visit: |_| (),
+        };
+        assert!(compare(&none, apart, apart).test(&none).report.is_err());
+    }
+
+    #[test]
+    fn numbers_are_counted_for_each_call() {
+        let mut numbers = Numbers::default();
+        numbers.count(Kind::Full, 16);
+        numbers.count(Kind::Writer, 0);
+        numbers.count(Kind::Writer, 17);
+        numbers.count(Kind::Writer, u32::MAX);
+        let mut twice = numbers.clone();
+        twice.add(&numbers);
+        for kind in Kind::ALL {
+            for number in 0..17 {
+                let counted = [(Kind::Full, 16), (Kind::Writer, 0)].contains(&(kind, number));
+                assert_eq!(twice.of(kind, number), if counted { 2 } else { 0 });
+            }
+        }
+    }
+}

@@ -1,0 +1,223 @@
+//! Written tickets with single claims or operands changed, which the full check
+//! finds at the right place.
+
+use apart::make::Parts;
+use apart::Setting;
+
+use super::craft::{fitting, full_by_sums, list_without_zero, sizes_up_to, true_parts, LARGEST, SHAPES};
+use super::true_tickets::sizes_and_largest;
+use crate::cases::{caught, refused, untrue, TicketCase, Visitor};
+use crate::generator::Generator;
+
+/// A change of a claim: what is added to the quotient, how often α is added to
+/// the remainder, and what else is.
+struct Change {
+    what: &'static str,
+    quotient: i64,
+    scales: i64,
+    remainder: i64,
+}
+
+const fn change(what: &'static str, quotient: i64, scales: i64, remainder: i64) -> Change {
+    Change {
+        what,
+        quotient,
+        scales,
+        remainder,
+    }
+}
+
+/// The last two balance the sum, and leave the remainder's range.
+const CHANGES: [Change; 6] = [
+    change("q + 1", 1, 0, 0),
+    change("q - 1", -1, 0, 0),
+    change("r + 1", 0, 0, 1),
+    change("r - 1", 0, 0, -1),
+    change("q + 1 with r - α", 1, -1, 0),
+    change("q - 1 with r + α", -1, 1, 0),
+];
+
+impl Change {
+    fn make(&self, setting: &Setting, parts: &mut Parts, place: usize) {
+        parts.quotients[place] += self.quotient;
+        parts.remainders[place] += self.scales * i64::from(setting.scale) + self.remainder;
+    }
+}
+
+/// Every change of the claim at one place of a true ticket: untrue there where it
+/// stays in range, refused at its record where it does not.
+fn visit_changes(visit: &mut Visitor, generator: &mut Generator, setting: &Setting, right: &Parts, place: usize) {
+    let half = 1 << (setting.width - 1);
+    let alpha = i64::from(setting.scale);
+    let first_quotient = right.a.len() + right.b.len();
+    let first_remainder = first_quotient + right.quotients.len();
+    for change in &CHANGES {
+        let mut parts = right.clone();
+        change.make(setting, &mut parts, place);
+        let (in_full, by_list) = if !(-half..half).contains(&parts.quotients[place]) {
+            let refusal = refused(8, first_quotient + place);
+            (refusal, refusal)
+        } else if !(0..alpha).contains(&parts.remainders[place]) {
+            let refusal = refused(9, first_remainder + place);
+            (refusal, refusal)
+        } else {
+            let row = place / setting.columns as usize;
+            (untrue(setting, place), caught(setting, 0, row))
+        };
+        let case = TicketCase {
+            what: change.what,
+            setting: *setting,
+            ticket: parts.ticket(setting),
+            list: list_without_zero(generator, setting),
+            expected: Some(by_list),
+        };
+        visit.full(change.what, setting, &case.ticket, Some(in_full));
+        visit.challenge(&case);
+    }
+}
+
+/// Every claim of small tickets.
+pub fn every_claim(visit: &mut Visitor) {
+    let mut generator = Generator::new(901);
+    let mut settings = SHAPES.to_vec();
+    for index in 0..4 * 4_u32.pow(3) {
+        let sizes = [index % 4 + 1, index / 4 % 4 + 1, index / 16 % 4 + 1, index % 3 + 1];
+        settings.push(fitting(&mut generator, sizes));
+    }
+    for setting in settings {
+        let right = true_parts(&mut generator, &setting);
+        for place in 0..right.quotients.len() {
+            visit_changes(visit, &mut generator, &setting, &right, place);
+        }
+    }
+}
+
+/// The first claim, the last, the ends of the first row, and two more of larger
+/// tickets.
+pub fn some_claims(visit: &mut Visitor) {
+    let mut generator = Generator::new(902);
+    for [rows, inner, columns, _] in sizes_and_largest().step_by(3) {
+        let vectors = generator.between(1, 2) as u32;
+        let setting = fitting(&mut generator, [rows, inner, columns, vectors]);
+        visit_some(visit, &mut generator, &setting);
+    }
+    for _ in 0..3 {
+        let setting = fitting(&mut generator, [LARGEST.rows, LARGEST.inner, LARGEST.columns, 1]);
+        visit_some(visit, &mut generator, &setting);
+    }
+}
+
+fn visit_some(visit: &mut Visitor, generator: &mut Generator, setting: &Setting) {
+    let right = true_parts(generator, setting);
+    let count = right.quotients.len();
+    let columns = setting.columns as usize;
+    let mut places = vec![0, count - 1, columns - 1, count - columns];
+    places.extend([generator.below(count), generator.below(count)]);
+    places.sort_unstable();
+    places.dedup();
+    for place in places {
+        visit_changes(visit, generator, setting, &right, place);
+    }
+}
+
+/// Every pair of claims of small tickets, each changed at random: the first that
+/// is not true counts, unless one of them is out of range.
+pub fn two_claims(visit: &mut Visitor) {
+    let mut generator = Generator::new(903);
+    let mut settings = SHAPES.to_vec();
+    for _ in 0..60 {
+        let sizes = sizes_up_to(&mut generator, [5, 5, 5, 2]);
+        settings.push(fitting(&mut generator, sizes));
+    }
+    for setting in settings {
+        let right = true_parts(&mut generator, &setting);
+        let count = right.quotients.len();
+        for one in 0..count {
+            for two in one + 1..count {
+                let mut parts = right.clone();
+                for place in [one, two] {
+                    CHANGES[generator.below(CHANGES.len())].make(&setting, &mut parts, place);
+                }
+                let expected = full_by_sums(&setting, &parts);
+                visit.full("two claims changed", &setting, &parts.ticket(&setting), Some(expected));
+            }
+        }
+    }
+}
+
+/// One operand of a written ticket up or down by one. The first claim that it has
+/// a part in becomes untrue, unless its factor is 0.
+pub fn operands(visit: &mut Visitor) {
+    let mut generator = Generator::new(904);
+    let mut settings = SHAPES.to_vec();
+    for _ in 0..100 {
+        let sizes = sizes_up_to(&mut generator, [5, 5, 5, 2]);
+        settings.push(fitting(&mut generator, sizes));
+    }
+    for setting in settings {
+        let right = true_parts(&mut generator, &setting);
+        for record in 0..right.a.len() + right.b.len() {
+            visit_operand(visit, &setting, &right, record);
+        }
+    }
+    for [rows, inner, columns, _] in sizes_and_largest().step_by(20) {
+        let setting = fitting(&mut generator, [rows, inner, columns, 1]);
+        let right = true_parts(&mut generator, &setting);
+        let [of_a, of_b] = [right.a.len(), right.b.len()];
+        for record in [0, of_a - 1, of_a, of_a + of_b - 1, generator.below(of_a + of_b)] {
+            visit_operand(visit, &setting, &right, record);
+        }
+    }
+}
+
+fn visit_operand(visit: &mut Visitor, setting: &Setting, right: &Parts, record: usize) {
+    for step in [-1, 1] {
+        let mut parts = right.clone();
+        let of_a = parts.a.len();
+        let entry = if record < of_a {
+            &mut parts.a[record]
+        } else {
+            &mut parts.b[record - of_a]
+        };
+        *entry += step;
+        let expected = if entry.abs() > i64::from(setting.bound) {
+            refused(7, record)
+        } else {
+            full_by_sums(setting, &parts)
+        };
+        visit.full(
+            "an operand changed by one",
+            setting,
+            &parts.ticket(setting),
+            Some(expected),
+        );
+    }
+}
+
+#[cfg(test)]
+mod tests {
+    use super::*;
+    use crate::cases::Kind;
+
+    /// The families would be of no use without the cases that they are made for.
+    #[test]
+    fn each_number_is_met() {
+        let families: [(fn(&mut Visitor), &[u32]); 3] = [
+            (every_claim, &[8, 9, 16]),
+            (two_claims, &[8, 9, 16]),
+            (operands, &[0, 7, 16]),
+        ];
+        for (family, numbers) in families {
+            let mut counts = [0; 17];
+            family(&mut Visitor(&mut |case| {
+                if case.kind() == Kind::Full {
+                    let stated = case.expected.as_ref().expect("every case is stated");
+                    counts[stated.answer.number as usize] += 1;
+                }
+            }));
+            for &number in numbers {
+                assert!(counts[number as usize] > 10, "{number}: {counts:?}");
+            }
+        }
+    }
+}

@@ -1,0 +1,270 @@
+//! Operands of other lengths and beyond the bound, alone and together with all
+//! else that the writer refuses.
+
+use apart::Setting;
+
+use super::{writer_case, Filling};
+use crate::cases::{refused, Visitor, WriterCase, Writing};
+use crate::families::craft::{fitting, sizes, true_parts, LARGEST, P, SHAPES};
+use crate::generator::Generator;
+
+/// A case that is written, with an output that is longer by one byte.
+fn case_to_spoil(generator: &mut Generator, what: &'static str, setting: &Setting) -> WriterCase {
+    let parts = true_parts(generator, setting);
+    let output = Filling::Inverse.output(&parts.ticket(setting), 1);
+    writer_case(what, setting, &parts, output)
+}
+
+/// Settings of different shapes, also those where A and B are not of the same
+/// length and the bound is the greatest.
+fn settings(generator: &mut Generator) -> Vec<Setting> {
+    let mut settings = SHAPES.to_vec();
+    for sizes in [[1, 2, 3, 1], [3, 2, 1, 2], [4, 1, 4, 1], [1, 7, 1, 1], [2, 3, 4, 8]] {
+        settings.push(fitting(generator, sizes));
+    }
+    settings.push(Setting::from([3, 1, 2, 1, 32_767, 32_767, 16]));
+    settings
+}
+
+/// Each operand of every length that could be taken for the right one, with
+/// entries within the bound and beyond, and outputs long enough and not.
+pub fn operand_lengths(visit: &mut Visitor) {
+    let mut generator = Generator::new(831);
+    let mut settings = settings(&mut generator);
+    settings.push(LARGEST);
+    for setting in settings {
+        let right = case_to_spoil(&mut generator, "operands of all lengths", &setting);
+        let [rows, inner, columns, _] = sizes(&setting);
+        let (of_a, of_b) = (right.a.len(), right.b.len());
+        let mut lengths = vec![0, 1, of_a - 1, of_a, of_a + 1, of_b - 1, of_b, of_b + 1];
+        lengths.extend([rows, inner, columns, rows * columns, 2 * of_a, of_a + of_b, 8 * of_a]);
+        lengths.sort_unstable();
+        lengths.dedup();
+        for &a in &lengths {
+            for &b in &lengths {
+                let refusal = match (a == of_a, b == of_b) {
+                    (false, _) => refused(13, 0),
+                    (true, false) => refused(13, 1),
+                    (true, true) => continue,
+                };
+                for entry in [0, setting.bound as i32, setting.bound as i32 + 1, i32::MIN] {
+                    let mut case = right.clone();
+                    case.a.resize(a, entry);
+                    case.b.resize(b, entry);
+                    case.expected = Some(Writing::Refusal(refusal));
+                    if generator.once_in(3) {
+                        case.output.truncate(generator.below(right.output.len()));
+                    }
+                    visit.write(&case);
+                }
+            }
+        }
+    }
+}
+
+/// Numbers around the bound and around the ends of 16 and 32 bits, and those that
+/// are small modulo p.
+fn numbers(setting: &Setting) -> Vec<i32> {
+    let bound = i64::from(setting.bound);
+    let p = i64::from(P);
+    let some = [bound - 1, bound, bound + 1, 32_767, 32_768, 65_535, 65_536, 1 << 30];
+    // p itself is the largest signed 32-bit number; p + 1 would be -2^31.
+    let ends = [p - bound, p - 2, p - 1, p, p + 1, 0, 1];
+    some.into_iter()
+        .chain(ends)
+        .flat_map(|number| [number, -number])
+        .filter_map(|number| i32::try_from(number).ok())
+        .collect()
+}
+
+/// One number at every index of A and B. What is within the bound is written.
+pub fn operands_beyond(visit: &mut Visitor) {
+    let mut generator = Generator::new(832);
+    for setting in settings(&mut generator) {
+        let right = case_to_spoil(&mut generator, "one operand replaced", &setting);
+        for index in 0..right.a.len() + right.b.len() {
+            for number in numbers(&setting) {
+                visit_replaced(visit, &right, &[(index, number)]);
+            }
+        }
+    }
+    let right = case_to_spoil(&mut generator, "one operand replaced", &LARGEST);
+    let (of_a, of_b) = (right.a.len(), right.b.len());
+    let mut indices = vec![0, 1, of_a - 1, of_a, of_a + 1, of_a + of_b - 1];
+    indices.extend((0..6).map(|_| generator.below(of_a + of_b)));
+    for index in indices {
+        for number in [101, -101, i32::MAX, -i32::MAX, i32::MIN, 100, -100] {
+            visit_replaced(visit, &right, &[(index, number)]);
+        }
+    }
+}
+
+/// Numbers beyond the bound at two indices of A and B, every pair of them: the
+/// first decides. In every other case the output is too short as well.
+pub fn two_operands_beyond(visit: &mut Visitor) {
+    let mut generator = Generator::new(833);
+    for setting in settings(&mut generator) {
+        let right = case_to_spoil(&mut generator, "two operands replaced", &setting);
+        let mut short = right.clone();
+        short.output.truncate(short.output.len() - 2);
+        let beyond: Vec<i32> = numbers(&setting)
+            .into_iter()
+            .filter(|number| number.unsigned_abs() > setting.bound)
+            .collect();
+        let count = right.a.len() + right.b.len();
+        for one in 0..count {
+            for two in one + 1..count {
+                for case in [&right, &short] {
+                    let replaced = [(one, generator.choose(&beyond)), (two, generator.choose(&beyond))];
+                    visit_replaced(visit, case, &replaced);
+                }
+            }
+        }
+    }
+}
+
+/// Visits a case with other numbers at some indices of A then B.
+fn visit_replaced(visit: &mut Visitor, right: &WriterCase, replaced: &[(usize, i32)]) {
+    let mut case = right.clone();
+    let of_a = case.a.len();
+    for &(index, number) in replaced {
+        if index < of_a {
+            case.a[index] = number;
+        } else {
+            case.b[index - of_a] = number;
+        }
+    }
+    let bound = i64::from(case.setting.bound);
+    let first = case
+        .a
+        .iter()
+        .chain(&case.b)
+        .position(|&number| i64::from(number).abs() > bound);
+    case.expected = Some(match first {
+        Some(index) => Writing::Refusal(refused(14, index)),
+        None => {
+            let operand = |numbers: &[i32]| -> Vec<i64> { numbers.iter().copied().map(i64::from).collect() };
+            let ticket = apart::true_ticket(&case.setting, &operand(&case.a), &operand(&case.b));
+            Writing::Ticket(ticket)
+        }
+    });
+    visit.write(&case);
+}
+
+/// What can be wrong with a call, in the order of the tests.
+#[derive(Clone, Copy)]
+enum Fault {
+    Sizes,
+    Others,
+    Fitting,
+    LengthOfA,
+    LengthOfB,
+    BeyondInA,
+    BeyondInB,
+    Output,
+}
+
+const FAULTS: [Fault; 8] = [
+    Fault::Sizes,
+    Fault::Others,
+    Fault::Fitting,
+    Fault::LengthOfA,
+    Fault::LengthOfB,
+    Fault::BeyondInA,
+    Fault::BeyondInB,
+    Fault::Output,
+];
+
+/// Every set of faults, in several ways each: the first in the order of the tests
+/// decides.
+pub fn several(visit: &mut Visitor) {
+    let mut generator = Generator::new(834);
+    let mut settings = settings(&mut generator);
+    settings.push(LARGEST);
+    for setting in settings {
+        let right = case_to_spoil(&mut generator, "several refusals at once", &setting);
+        for set in 0..1_usize << FAULTS.len() {
+            for _ in 0..3 {
+                let mut case = right.clone();
+                let faults = (0..FAULTS.len()).filter(|index| set >> index & 1 == 1);
+                // The first is put in last, and its refusal remains.
+                for index in faults.rev() {
+                    let refusal = spoil(&mut generator, &mut case, FAULTS[index]);
+                    case.expected = Some(refusal);
+                }
+                visit.write(&case);
+            }
+        }
+    }
+}
+
+/// Puts a fault into a case and says what it is refused with, if all before it is
+/// right.
+fn spoil(generator: &mut Generator, case: &mut WriterCase, fault: Fault) -> Writing {
+    let setting = &mut case.setting;
+    let beyond = generator.choose(&[
+        setting.bound as i32 + 1,
+        -(setting.bound as i32) - 1,
+        i32::MIN,
+        i32::MAX,
+    ]);
+    let (number, place) = match fault {
+        Fault::Sizes => {
+            match generator.below(5) {
+                0 => setting.rows = 33,
+                1 => setting.inner = 0,
+                2 => setting.columns = u32::MAX,
+                3 => setting.vectors = 9,
+                _ => setting.vectors = 0,
+            }
+            (1, 0)
+        }
+        Fault::Others => {
+            match generator.below(5) {
+                0 => setting.scale = 1,
+                1 => setting.scale = 65_537,
+                2 => setting.bound = 32_768,
+                3 => setting.width = 0,
+                _ => setting.width = 31,
+            }
+            (2, 0)
+        }
+        Fault::Fitting => {
+            // 2^30·α is beyond p for every α.
+            setting.width = 30;
+            (3, 0)
+        }
+        Fault::LengthOfA => {
+            other_length(generator, &mut case.a, beyond);
+            (13, 0)
+        }
+        Fault::LengthOfB => {
+            other_length(generator, &mut case.b, beyond);
+            (13, 1)
+        }
+        Fault::BeyondInA => {
+            // Before all that are beyond already.
+            let index = generator.below(case.a.len());
+            case.a[index] = beyond;
+            (14, index)
+        }
+        Fault::BeyondInB => {
+            let index = generator.below(case.b.len());
+            case.b[index] = beyond;
+            (14, case.a.len() + index)
+        }
+        Fault::Output => {
+            let right = case.output.len() - 1;
+            let length = generator.choose(&[0, right / 2, right - 8, right - 1]);
+            case.output.truncate(length);
+            (15, 0)
+        }
+    };
+    Writing::Refusal(refused(number, place))
+}
+
+fn other_length(generator: &mut Generator, operand: &mut Vec<i32>, entry: i32) {
+    let right = operand.len();
+    let other = generator.choose(&[0, right - 1, right + 1, 2 * right + 1]);
+    operand.resize(other, entry);
+}

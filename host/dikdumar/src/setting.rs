@@ -1,0 +1,41 @@
+//! The setting.
+
+/// The public numbers of a check, and of the writer. They come from the caller,
+/// never from the ticket.
+///
+/// A setting fits when m·T² + α - 1 ≤ 2^(v-1)·α and 2^v·α < p. One that is
+/// beyond its limits or does not fit is refused, as number 1, 2 or 3.
+#[repr(C)]
+#[derive(Clone, Copy, Debug, PartialEq, Eq)]
+pub struct Setting {
+    /// Rows of A, ℓ: 1 to 32.
+    pub rows: u32,
+    /// Columns of A and rows of B, m: 1 to 64.
+    pub inner: u32,
+    /// Columns of B, n: 1 to 32.
+    pub columns: u32,
+    /// Challenge vectors, s: 1 to 8.
+    pub vectors: u32,
+    /// Scale, α: 2 to 65,536.
+    pub scale: u32,
+    /// Bound of the entries of A and B, T: 1 to 32,767.
+    pub bound: u32,
+    /// Width of the quotients in bits, v: 1 to 30.
+    pub width: u32,
+}
+
+impl From<[u32; 7]> for Setting {
+    /// The setting of these numbers, in the order of the fields: ℓ, m, n, s, α,
+    /// T, v.
+    fn from([rows, inner, columns, vectors, scale, bound, width]: [u32; 7]) -> Setting {
+        Setting {
+            rows,
+            inner,
+            columns,
+            vectors,
+            scale,
+            bound,
+            width,
+        }
+    }
+}

@@ -1,0 +1,85 @@
+//! The writer of tickets.
+
+use crate::{library, Answer, Setting};
+
+/// Writes the one ticket for A (ℓ by m) and B (m by n), both row by row, whose
+/// claims are true: each quotient is the floor of its sum over α, each remainder
+/// what is left. Both checks accept it.
+///
+/// When it is written, the answer's number is 0, its place the length of the
+/// ticket in bytes, 8(ℓm + mn + 2ℓn), and its products are ℓmn. The output past
+/// that length is unchanged. Every other answer is a refusal, by the tests 1, 2,
+/// 3, 13, 14 and 15 in this order, and leaves the whole output unchanged. The
+/// number of vectors in the setting is tested with the rest of it, and not used.
+pub fn write_ticket(setting: Setting, a: &[i32], b: &[i32], output: &mut [u8]) -> Answer {
+    // SAFETY: the call is proved to meet a contract that asks nothing of its
+    // arguments beyond what slices promise: each pointer is aligned, not null
+    // (that of an empty slice too) and lends as many items as its length says
+    // during the call, those of the operands for reading, those of the output
+    // for writing and to no other. The structs are laid out as in the header.
+    unsafe {
+        library::dikdumar_write_ticket(
+            setting,
+            a.as_ptr(),
+            a.len(),
+            b.as_ptr(),
+            b.len(),
+            output.as_mut_ptr(),
+            output.len(),
+        )
+    }
+}
+
+#[cfg(test)]
+mod tests {
+    use super::*;
+    use crate::{challenge_check, full_check};
+
+    const A: [i32; 4] = [3, -2, 5, 4];
+    const B: [i32; 4] = [-1, 6, 7, -8];
+
+    /// ℓ = m = n = 2, s = 1, α = 10, T = 8, v = 5.
+    fn k() -> Setting {
+        Setting::from([2, 2, 2, 1, 10, 8, 5])
+    }
+
+    /// The four numbers, for an output that the call must leave as it is.
+    fn refusal(setting: Setting, a: &[i32], b: &[i32], length: usize) -> [u32; 4] {
+        let mut output = vec![0xA5; length];
+        let answer = write_ticket(setting, a, b, &mut output);
+        assert_ne!(answer.number, 0);
+        assert!(output.iter().all(|&byte| byte == 0xA5));
+        answer.numbers()
+    }
+
+    #[test]
+    fn a_written_ticket_is_accepted_by_both_checks() {
+        let mut output = [0xA5; 130];
+        assert_eq!(write_ticket(k(), &A, &B, &mut output).numbers(), [0, 128, 0, 8]);
+        let (ticket, past) = output.split_at(128);
+        assert_eq!(past, [0xA5; 2]);
+        // The entry -2, and the quotient -2 and the remainder 3 of -17 over 10.
+        assert_eq!(ticket[8..16], [0x01, 0x00, 0x00, 0x01, 0xFD, 0xFF, 0xFF, 0x7F]);
+        assert_eq!(ticket[64..72], [0x03, 0x00, 0x00, 0x00, 0xFD, 0xFF, 0xFF, 0x7F]);
+        assert_eq!(ticket[96..104], [0x04, 0x00, 0x00, 0x00, 0x03, 0x00, 0x00, 0x00]);
+        assert_eq!(full_check(k(), ticket).numbers(), [0, 0, 0, 8]);
+        assert_eq!(challenge_check(k(), ticket, &[1, 2]).numbers(), [0, 0, 0, 12]);
+    }
+
+    #[test]
+    fn a_refusal_writes_nothing() {
+        let no_rows = Setting { rows: 0, ..k() };
+        assert_eq!(refusal(no_rows, &A, &B, 128), [1, 0, 0, 0]);
+        assert_eq!(refusal(k(), &A[..3], &B, 128), [13, 0, 0, 0]);
+        assert_eq!(refusal(k(), &A, &[9, 6, 7, -8], 128), [14, 4, 0, 0]);
+        assert_eq!(refusal(k(), &A, &[-1, 6, 7, i32::MIN], 128), [14, 7, 0, 0]);
+        assert_eq!(refusal(k(), &A, &B, 127), [15, 0, 0, 0]);
+    }
+
+    #[test]
+    fn nothing_is_needed_behind_an_empty_slice() {
+        assert_eq!(refusal(k(), &[], &[], 0), [13, 0, 0, 0]);
+        assert_eq!(refusal(k(), &A, &[], 0), [13, 1, 0, 0]);
+        assert_eq!(refusal(k(), &A, &B, 0), [15, 0, 0, 0]);
+    }
+}
