@@ -1,10 +1,11 @@
 /*
  * The layer ticket and its checker: residue arithmetic modulo p = 2147483647
- * (a prime, 2^31 - 1) and the challenge check.
+ * (a prime, 2^31 - 1), the challenge check, the full check, the ticket writer.
  *
  * Every call takes every number, whatever its value, and every byte; nothing is
- * undefined and nothing is written anywhere. A pointer lends for reading as many
- * items as the length beside it says.
+ * undefined, and nothing is written anywhere but to the writer's output. A
+ * pointer lends as many items as the length beside it says, for reading, or for
+ * writing where it is the output.
  *
  * In the residue calls a residue is handed in by any number that is equal to it
  * modulo p: an argument of p or more is reduced first. A residue that is handed
@@ -69,12 +70,12 @@ typedef struct {
     uint32_t width;   /* v, quotients are from -2^(v-1) to 2^(v-1) - 1: 1 to 30 */
 } dikdumar_setting;
 
-/* The answer of a check; the table below says what each number means. */
+/* The answer of a call; the table at each says what its numbers mean. */
 typedef struct {
-    uint32_t number;   /* what was found, 0 when accepted */
-    uint32_t place;    /* where: a record, a list index or a vector, from 0 */
+    uint32_t number;   /* what was found, 0 when accepted or written */
+    uint32_t place;    /* where, by the number; the length of a written ticket */
     uint32_t row;      /* the row that was caught, from 0, else 0 */
-    uint32_t products; /* the products made; 0 but for the numbers 0 and 12 */
+    uint32_t products; /* the products made; 0 but for numbers 0, 12 and 16 */
 } dikdumar_answer;
 
 /*
@@ -127,6 +128,74 @@ typedef struct {
 dikdumar_answer dikdumar_challenge_check(dikdumar_setting setting,
                                          const uint8_t *ticket, size_t ticket_length,
                                          const uint32_t *list, size_t list_length);
+
+/*
+ * Checks every claim of a ticket, row by row, with no list.
+ *
+ * The ticket is read as by the challenge check. Then each exact sum of
+ * A(i,k)*B(k,j) over all k is made and compared with a*q + r. It accepts the
+ * true tickets and no other: each quotient is the floor of its sum over the
+ * scale (rounded down, also below zero), and each remainder what is left.
+ *
+ *     number  meaning                                        place
+ *        0    accepted                                       0
+ *      1-9    as in the challenge check                      as there
+ *       16    untrue claim, at row i, column j               i*n + j
+ *
+ * The first test that fails decides: 1 to 9 as in the challenge check, then 16,
+ * row by row. s is tested with the rest of the setting, and not used. Row is
+ * always 0. Products are 0 except in these answers:
+ *
+ *     accepted                     products l*m*n
+ *     untrue claim at i, j         products m*(i*n + j + 1)
+ *
+ * ticket lends ticket_length bytes. They are read only, and only during the
+ * call; with a length of 0 nothing is read, but the pointer is to be a valid one
+ * all the same, not NULL.
+ */
+dikdumar_answer dikdumar_full_check(dikdumar_setting setting,
+                                    const uint8_t *ticket, size_t ticket_length);
+
+/*
+ * Writes the one ticket for A and B whose claims are true.
+ *
+ * A (l by m) and B (m by n) are handed in as signed numbers, row by row, and may
+ * hold any of the 2^32. The ticket is written to the beginning of the output, in
+ * the records described above: A, B, the quotients and the remainders. Each
+ * quotient is the floor of its sum over the scale (rounded down, also below
+ * zero), each remainder what is left. The full check accepts the ticket, and the
+ * challenge check does with every list of s*n least residues.
+ *
+ *     number  meaning                                        place
+ *        0    written                                        ticket's length
+ *        1    l, m, n or s outside its limits                0
+ *        2    a, T or v outside its limits                   0
+ *        3    the setting does not fit                       0
+ *       13    a_length is not l*m, or b_length not m*n       0 for A, 1 for B
+ *       14    number of A or B below -T or above T           index in A, then B
+ *       15    output_length is below the ticket's length     0
+ *
+ * The ticket's length is 8*(l*m + m*n + 2*l*n), in bytes. The index of a number
+ * of B is counted on from A: the first is l*m.
+ *
+ * The first test that fails decides: 1, 2, 3, 13 for A, 13 for B, 14 from the
+ * first number on, 15. s is tested with the rest of the setting, and not used.
+ * Row is always 0. Products are l*m*n where the ticket is written, and 0 in
+ * every refusal.
+ *
+ * Where the number is 0, the output past the ticket's length stays as it is.
+ * Where it is another, no byte of the output is changed.
+ *
+ * The pointers a and b lend a_length and b_length numbers, not bytes; output
+ * lends output_length bytes, which are to lie apart from those numbers. The
+ * numbers are read only, and all is lent only during the call; with a length of
+ * 0 nothing is read or written, but the pointer is to be a valid one all the
+ * same, not NULL.
+ */
+dikdumar_answer dikdumar_write_ticket(dikdumar_setting setting,
+                                      const int32_t *a, size_t a_length,
+                                      const int32_t *b, size_t b_length,
+                                      uint8_t *output, size_t output_length);
 
 #ifdef __cplusplus
 }

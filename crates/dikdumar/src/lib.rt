@@ -25,7 +25,12 @@ pub extern "C" fn dikdumar_full_check(setting: Setting, ticket: &[u8]) -> Answer
 }
 
 #[no_mangle]
-pub extern "C" fn dikdumar_write_ticket(setting: Setting, a: &[i32], b: &[i32], output: &mut [u8]) -> Answer
+pub extern "C" fn dikdumar_write_ticket(
+    setting: Setting,
+    a: &[i32],
+    b: &[i32],
+    output: &mut [u8],
+) -> Answer
     ensures { λ r. ⌜ (r ≡ writing setting (now (a .entry)) (now (b .entry)) (length (now (output .entry)))) × (now (output .exit) ≡ outputAfter setting (now (a .entry)) (now (b .entry)) (now (output .entry))) ⌝ }
 {
     writer::write(setting, a, b, output)

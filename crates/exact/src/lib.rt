@@ -4,13 +4,16 @@ ghost use mathlib.Core.Path.{_≡_};
 ghost use Prim.Native.Nat.{_+_, _≤_, _^_, min};
 ghost use lib.ListN.{length};
 ghost use Rattle.residue.specs.Rules.{leastResidue};
-ghost use Rattle.exact.specs.Rules.{dotProduct, productSum};
+ghost use Rattle.exact.specs.Rules.{dotProduct};
+ghost use Rattle.exact.specs.Laws.Products.{sumWith};
 
 // 2^32
 const WORD: u64 = 4_294_967_296;
 
-// How many products are added up at once, with no loop left, so that a compiler makes several of them at a time.
-const LANES: usize = 64;
+// Products are added up in blocks of 8 rows of 8: loops of fixed lengths, which a compiler lays out flat and makes many at a time.
+const ROW: usize = 8;
+
+const BLOCK: usize = ROW * ROW;
 
 // The sum of the products of two lists, number by number, up to the end of the shorter one, modulo 2^32.
 pub fn dot(x: &[i16], y: &[i16]) -> u32
@@ -19,40 +22,33 @@ pub fn dot(x: &[i16], y: &[i16]) -> u32
     let count = shorter(x.len(), y.len());
     let mut sum: u32 = 0;
     let mut k = 0;
-    while LANES <= count - k {
-        sum = std::num::wrapping_add_u32(sum, sixty_four(x, y, k));
-        k += LANES;
+    while BLOCK <= count - k {
+        sum = block(x, y, k, sum);
+        k += BLOCK;
     }
-    std::num::wrapping_add_u32(sum, products(x, y, k, count - k))
+    products(x, y, k, count - k, sum)
 }
 
-fn sixty_four(x: &[i16], y: &[i16], start: usize) -> u32
+// A sum with a block of products added, from number start of both lists on, modulo 2^32.
+fn block(x: &[i16], y: &[i16], start: usize, before: u32) -> u32
     requires { ⌜ (start + 64 ≤ length (now x)) × (start + 64 ≤ length (now y)) ⌝ }
-    ensures { λ r. ⌜ r ≡ leastResidue (2 ^ 32) (productSum start 64 (now (x .entry)) (now (y .entry))) ⌝ }
+    ensures { λ r. ⌜ r ≡ sumWith before start 64 (now (x .entry)) (now (y .entry)) ⌝ }
 {
-    std::num::wrapping_add_u32(thirty_two(x, y, start), thirty_two(x, y, start + 32))
+    let mut sum = before;
+    let mut k = 0;
+    while k < BLOCK {
+        sum = products(x, y, start + k, ROW, sum);
+        k += ROW;
+    }
+    sum
 }
 
-fn thirty_two(x: &[i16], y: &[i16], start: usize) -> u32
-    requires { ⌜ (start + 32 ≤ length (now x)) × (start + 32 ≤ length (now y)) ⌝ }
-    ensures { λ r. ⌜ r ≡ leastResidue (2 ^ 32) (productSum start 32 (now (x .entry)) (now (y .entry))) ⌝ }
-{
-    std::num::wrapping_add_u32(sixteen(x, y, start), sixteen(x, y, start + 16))
-}
-
-fn sixteen(x: &[i16], y: &[i16], start: usize) -> u32
-    requires { ⌜ (start + 16 ≤ length (now x)) × (start + 16 ≤ length (now y)) ⌝ }
-    ensures { λ r. ⌜ r ≡ leastResidue (2 ^ 32) (productSum start 16 (now (x .entry)) (now (y .entry))) ⌝ }
-{
-    std::num::wrapping_add_u32(products(x, y, start, 8), products(x, y, start + 8, 8))
-}
-
-// The sum of count products, from number start of both lists on, modulo 2^32.
-fn products(x: &[i16], y: &[i16], start: usize, count: usize) -> u32
+// A sum with count products added, from number start of both lists on, modulo 2^32.
+fn products(x: &[i16], y: &[i16], start: usize, count: usize, before: u32) -> u32
     requires { ⌜ (start + count ≤ length (now x)) × (start + count ≤ length (now y)) ⌝ }
-    ensures { λ r. ⌜ r ≡ leastResidue (2 ^ 32) (productSum start count (now (x .entry)) (now (y .entry))) ⌝ }
+    ensures { λ r. ⌜ r ≡ sumWith before start count (now (x .entry)) (now (y .entry)) ⌝ }
 {
-    let mut sum: u32 = 0;
+    let mut sum = before;
     let mut k = 0;
     while k < count {
         let at = start + k;

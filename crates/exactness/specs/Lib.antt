@@ -1,2 +1,3 @@
--- What the answers of the full check mean: the laws.
+-- What the answers of the full check and of the writer mean: the laws, and the marked examples of all calls.
 pub mod Laws
+mod Examples

@@ -112,7 +112,12 @@ fn compare(
         let b = column * inner;
         let sum = exact::dot(&rows[a..a + inner], &columns[b..b + inner]);
         let made = answer.products + (inner as u32);
-        answer = compared(std::num::wrapping_add_u32(sum, lift), claims[c], c as u32, made);
+        answer = compared(
+            std::num::wrapping_add_u32(sum, lift),
+            claims[c],
+            c as u32,
+            made,
+        );
         if answer.number != 0 {
             return answer;
         }

@@ -4,7 +4,6 @@ ghost use Rattle.full.specs.Rules.{fullCheck};
 use ticket::Answer;
 use ticket::Setting;
 
-
 mod claims;
 mod operands;
 

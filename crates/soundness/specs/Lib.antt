@@ -1,3 +1,2 @@
--- What the answers of the challenge check mean: the laws, and the marked examples.
+-- What the answers of the challenge check mean: the laws.
 pub mod Laws
-mod Examples

@@ -74,9 +74,9 @@ recordOf kind row column value =
 unfoldable pub recordsOf : Part → (ℕ → ℕ → ℤ) → List ℕ
 recordsOf P f =
     joined (P .rows * P .columns) (λ c.
-      let i = c / P .columns in
-      let j = c % P .columns in
-      recordOf (P .kind) i j (leastResidue modulus (f i j)))
+    let i = c / P .columns in
+    let j = c % P .columns in
+    recordOf (P .kind) i j (leastResidue modulus (f i j)))
 
 unfoldable pub ticketOf : Setting → List ℤ → List ℤ → List ℕ
 ticketOf G A B =

@@ -1,17 +1,16 @@
-use Prim.Native.Nat.{_-_, _^_, _≤_}
+use Prim.Native.Nat.{_-_, _≤_}
 use native.Mathlib.Nat.{min-le-left, min-le-right}
 use native.Mathlib.Omega.{arith}
 use mathlib.Core.Path.{_≡_, ap, _∙_}
 use borrow.Author.Needs.{needs}
 use lib.ListN.{length}
-use Rattle.residue.specs.Rules.{leastResidue}
-use Rattle.exact.specs.Rules.{productSum, dotProduct}
-use Rattle.exact.specs.Laws.Products.{sum-none, sum-further}
+use Rattle.exact.specs.Rules.{dotProduct}
+use Rattle.exact.specs.Laws.Products.{sumWith, sum-none, sum-further, sum-all}
 use Rattle.exact.proofs.dot.Statement.{statement}
 use Rattle.exact.proofs.dot.Tie as tie
 
 abbrev Inv-loop : tie.InvT-loop
-Inv-loop x y count sum₀ k₀ sum k = (k ≤ count) × (count ≤ length x) × (count ≤ length y) × (sum ≡ leastResidue (2 ^ 32) (productSum 0 k x y))
+Inv-loop x y count sum₀ k₀ sum k = (k ≤ count) × (count ≤ length x) × (count ≤ length y) × (sum ≡ sumWith 0 0 k x y)
 
 abbrev μ-loop : tie.MeasureT-loop
 μ-loop x y count sum₀ k₀ sum k = count - k
@@ -20,16 +19,18 @@ shorter-requires : tie.Need-shorter-requires Inv-loop μ-loop
 shorter-requires c κs = search needs
 
 loop-holds : tie.Need-loop-holds Inv-loop μ-loop
-loop-holds c = (omega arith, rw (c .shorter .ensures) (min-le-left _ _), rw (c .shorter .ensures) (min-le-right _ _), sum-none _ _ 0)
+loop-holds c = (
+  omega arith,
+  rw (c .shorter .ensures) (min-le-left _ _),
+  rw (c .shorter .ensures) (min-le-right _ _),
+  sum-none (c .before .args .x .now) (c .before .args .y .now) 0 0 (omega arith),
+)
 
 sub-loop : tie.Need-sub-loop Inv-loop μ-loop
 sub-loop c = omega arith
 
-sixty-four-requires : tie.Need-sixty-four-requires Inv-loop μ-loop
-sixty-four-requires c κs = omega arith
-
-wrapping-add-u32-requires : tie.Need-wrapping-add-u32-requires Inv-loop μ-loop
-wrapping-add-u32-requires c κs = search needs
+block-requires : tie.Need-block-requires Inv-loop μ-loop
+block-requires c κs = omega arith
 
 add-k : tie.Need-add-k Inv-loop μ-loop
 add-k c = omega arith
@@ -38,7 +39,9 @@ loop-less : tie.Need-loop-less Inv-loop μ-loop
 loop-less c = omega arith
 
 loop-again : tie.Need-loop-again Inv-loop μ-loop
-loop-again c = let inv = c .before .before .before .loop .inv in (omega arith, inv .1, inv .2, sum-further _ _ (c .before .before .before .loop .k) _ (inv .3) (c .before .sixty-four .ensures) (c .wrapping-add-u32 .ensures))
+loop-again c =
+    let inv = c .before .before .loop .inv in
+    (omega arith, inv .1, inv .2, sum-further (c .before .before .before .before .args .x .now) (c .before .before .before .before .args .y .now) (c .before .before .loop .k) 64 (inv .3) (c .block .ensures))
 
 sub-products : tie.Need-sub-products Inv-loop μ-loop
 sub-products c = omega arith
@@ -46,14 +49,13 @@ sub-products c = omega arith
 products-requires : tie.Need-products-requires Inv-loop μ-loop
 products-requires c κs = omega arith
 
-wrapping-add-u32-requires-2 : tie.Need-wrapping-add-u32-requires-2 Inv-loop μ-loop
-wrapping-add-u32-requires-2 c κs = search needs
-
 returns : tie.Need-returns Inv-loop μ-loop
 unfolding dotProduct
-returns c = 
-    sum-further _ _ (c .before .before .before .loop .k) _ (c .before .before .before .loop .inv .3) (c .before .products .ensures) (c .wrapping-add-u322 .ensures)
-    ∙ ap (λ n. leastResidue (2 ^ 32) (productSum 0 n (c .before .before .before .before .before .args .x .now) (c .before .before .before .before .before .args .y .now))) (omega (arith, c .before .before .before .before .shorter .ensures))
+returns c =
+    let k = c .before .before .loop .k in
+    let count = c .before .before .before .shorter .result in
+    sum-further (c .before .before .before .before .args .x .now) (c .before .before .before .before .args .y .now) k (count - k) (c .before .before .loop .inv .3) (c .products .ensures)
+    ∙ ap (λ n. sumWith 0 0 n (c .before .before .before .before .args .x .now) (c .before .before .before .before .args .y .now)) (omega (arith, c .before .before .before .shorter .ensures)) ∙ sum-all (c .before .before .before .before .args .x .now) (c .before .before .before .before .args .y .now) _
 
 pub dot-spec : {M : Type 1} → statement M
 dot-spec =
@@ -64,12 +66,10 @@ dot-spec =
     shorter-requires
     loop-holds
     sub-loop
-    sixty-four-requires
-    wrapping-add-u32-requires
+    block-requires
     add-k
     loop-less
     loop-again
     sub-products
     products-requires
-    wrapping-add-u32-requires-2
     returns)

@@ -1,4 +1,4 @@
-use Prim.Native.Nat.{_+_, _-_, _^_, _≤_}
+use Prim.Native.Nat.{_+_, _-_, _≤_}
 use native.Mathlib.Omega.{arith}
 use mathlib.Core.Path.{_≡_, ap, _∙_}
 use borrow.Author.Needs.{needs}
@@ -6,18 +6,16 @@ use lib.IntN.{pos}
 use lib.ListN.{getD}
 use mir.Syntax.{w16}
 use mir.Val.{SFits}
-use Rattle.residue.specs.Rules.{leastResidue}
 use Rattle.residue.specs.Laws.Signed.{widened}
-use Rattle.exact.specs.Rules.{productSum}
-use Rattle.exact.specs.Laws.Products.{product-fits, product-residue, sum-none, sum-more}
+use Rattle.exact.specs.Laws.Products.{product-fits, product-residue, sumWith, sum-none, sum-more}
 use Rattle.exact.proofs.products.Statement.{statement}
 use Rattle.exact.proofs.products.Tie as tie
 
 abbrev Inv-loop : tie.InvT-loop
-Inv-loop x y start count sum₀ k₀ sum k = (k ≤ count) × (sum ≡ leastResidue (2 ^ 32) (productSum start k x y))
+Inv-loop x y start count before sum₀ k₀ sum k = (k ≤ count) × (sum ≡ sumWith before start k x y)
 
 abbrev μ-loop : tie.MeasureT-loop
-μ-loop x y start count sum₀ k₀ sum k = count - k
+μ-loop x y start count before sum₀ k₀ sum k = count - k
 
 fits-x : (c : tie.After-product Inv-loop μ-loop)
     → SFits w16 (getD (c .before .before .before .args .x .now) (c .before .before .before .args .start + c .before .before .loop .k) (pos 0))
@@ -28,7 +26,7 @@ fits-y : (c : tie.After-product2 Inv-loop μ-loop)
 fits-y c = record { sfits = c .product2 .given }
 
 loop-holds : tie.Need-loop-holds Inv-loop μ-loop
-loop-holds c = (omega arith, sum-none _ _ _)
+loop-holds c = (omega arith, sum-none (c .args .x .now) (c .args .y .now) (c .args .before) (c .args .start) (omega arith))
 
 add-at : tie.Need-add-at Inv-loop μ-loop
 add-at c = omega arith
@@ -68,14 +66,14 @@ loop-less c = omega arith
 
 loop-again : tie.Need-loop-again Inv-loop μ-loop
 loop-again c = (
-      omega arith,
-      sum-more _ _ (c .before .before .before .before .before .before .args .start) (c .before .before .before .before .before .loop .k) (c .before .before .before .before .before .loop .inv .1)
-          (c .before .bits .ensures ∙ product-residue (fits-x (c .before .before .before)) (fits-y (c .before .before)))
-          (c .wrapping-add-u32 .ensures),
-    )
+  omega arith,
+  sum-more (c .before .before .before .before .before .before .args .x .now) (c .before .before .before .before .before .before .args .y .now) (c .before .before .before .before .before .before .args .before) (c .before .before .before .before .before .before .args .start) (c .before .before .before .before .before .loop .k) (c .before .before .before .before .before .loop .inv .1)
+      (c .before .bits .ensures ∙ product-residue (fits-x (c .before .before .before)) (fits-y (c .before .before)))
+      (c .wrapping-add-u32 .ensures),
+)
 
 returns : tie.Need-returns Inv-loop μ-loop
-returns c = c .before .loop .inv .1 ∙ ap (λ n. leastResidue (2 ^ 32) (productSum (c .before .before .args .start) n (c .before .before .args .x .now) (c .before .before .args .y .now))) (omega arith)
+returns c = c .before .loop .inv .1 ∙ ap (λ n. sumWith (c .before .before .args .before) (c .before .before .args .start) n (c .before .before .args .x .now) (c .before .before .args .y .now)) (omega arith)
 
 pub products-spec : {M : Type 1} → statement M
 products-spec =

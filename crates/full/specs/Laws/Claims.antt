@@ -436,7 +436,7 @@ module _ {G : Setting} {t : List ℕ} (passed : Passed G t) where
         sum-lifted : Lifted G (exactSum G t (rowOf G c) (columnOf G c)) (sumAt A B (G .inner) lifting (rowOf G c) (columnOf G c))
         sum-lifted =
             let exact : dotProduct (lineOf A (G .inner) (rowOf G c)) (lineOf B (G .inner) (columnOf G c))
-                ≡ leastResidue (2 ^ 32) (exactSum G t (rowOf G c) (columnOf G c)) =
+            ≡ leastResidue (2 ^ 32) (exactSum G t (rowOf G c) (columnOf G c)) =
             dot-is (G .inner) (lineOf A (G .inner) (rowOf G c)) (lineOf B (G .inner) (columnOf G c)) (entryA G t (rowOf G c)) (λ k. entryB G t k (columnOf G c))
             (part-long A (rowOf G c * G .inner) (G .inner) (omega (arith, row-inside (G .inner) l, rows .long, passed .counts)))
             (part-long B (columnOf G c * G .inner) (G .inner) (omega (arith, row-inside (G .inner) m, columns .long, passed .counts)))

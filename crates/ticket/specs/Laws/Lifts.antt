@@ -69,7 +69,7 @@ module _ {G : Setting} (numbers : Numbers G) (fitted : Fitted G) where
         let y-below : y < 2 ^ 32 = omega (arith, lift-small, modulus-is, size-parts S, fitted .sums, numbers .scale) in
         let same : x ≡ y =
         e ∙ sym (
-          residue-sum (2 ^ 32) word S (pos (lift G)) ∙ ap (λ n. (leastResidue (2 ^ 32) S + n) % 2 ^ 32) (residue-of-residue (2 ^ 32) word (lift G) below)
+        residue-sum (2 ^ 32) word S (pos (lift G)) ∙ ap (λ n. (leastResidue (2 ^ 32) S + n) % 2 ^ 32) (residue-of-residue (2 ^ 32) word (lift G) below)
         )
         ∙ ap (leastResidue (2 ^ 32)) up ∙ residue-of-residue (2 ^ 32) word y y-below in
         ap pos same ∙ sym up

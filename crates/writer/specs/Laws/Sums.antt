@@ -88,11 +88,11 @@ module _ {G : Setting} (numbers : Numbers G) (fitted : Fitted G) {half sum x : �
       record {
         quotient-is =
             sym (
-              ap (leastResidue modulus) (sym quotient)
-              ∙ residue-shift modulus modulus-positive (pos (x / G .scale) -ℤ pos half) (pos (x / G .scale + (modulus - half))) 1 0
-              (omega (arith, parts-difference (pos (x / G .scale)) (pos half), modulus-is))
-              ∙ residue-of-residue modulus modulus-positive (x / G .scale + (modulus - half)) (omega (arith, modulus-is))
-              ∙ ap (λ p. x / G .scale + (p - half)) modulus-is
+            ap (leastResidue modulus) (sym quotient)
+            ∙ residue-shift modulus modulus-positive (pos (x / G .scale) -ℤ pos half) (pos (x / G .scale + (modulus - half))) 1 0
+            (omega (arith, parts-difference (pos (x / G .scale)) (pos half), modulus-is))
+            ∙ residue-of-residue modulus modulus-positive (x / G .scale + (modulus - half)) (omega (arith, modulus-is))
+            ∙ ap (λ p. x / G .scale + (p - half)) modulus-is
             );
         remainder-is = left;
         remainder-small = mod-lt x (omega (arith, numbers .scale));
@@ -105,9 +105,9 @@ module _ {G : Setting} (numbers : Numbers G) (fitted : Fitted G) {half sum x : �
       record {
         quotient-is =
             sym (
-              ap (leastResidue modulus) (sym quotient ∙ equal-of-parts (pos (x / G .scale) -ℤ pos half) (pos (x / G .scale - half))
-              (omega (arith, parts-difference (pos (x / G .scale)) (pos half))))
-              ∙ residue-of-residue modulus modulus-positive (x / G .scale - half) (omega arith)
+            ap (leastResidue modulus) (sym quotient ∙ equal-of-parts (pos (x / G .scale) -ℤ pos half) (pos (x / G .scale - half))
+            (omega (arith, parts-difference (pos (x / G .scale)) (pos half))))
+            ∙ residue-of-residue modulus modulus-positive (x / G .scale - half) (omega arith)
             );
         remainder-is = left;
         remainder-small = mod-lt x (omega (arith, numbers .scale));

@@ -158,8 +158,8 @@ module _ {before written output : List ℕ} {start : ℕ} (begins : Begins befor
             is ∙ rw (
               ap (take s) (begins .is) ∙ take-at written (drop s before) s (begins .long),
               ap (λ m. drop m output) later ∙ sym (drop-drop (recordBytes * n) s output)
-              ∙ ap (drop (recordBytes * n)) (ap (drop s) (begins .is) ∙ drop-at written (drop s before) s (begins .long))
-              ∙ drop-drop (recordBytes * n) s before ∙ ap (λ m. drop m before) (sym later),
+                  ∙ ap (drop (recordBytes * n)) (ap (drop s) (begins .is) ∙ drop-at written (drop s before) s (begins .long))
+                  ∙ drop-drop (recordBytes * n) s before ∙ ap (λ m. drop m before) (sym later),
             )
             (sym (append-assoc written part (drop (recordBytes * (start + n)) before)));
       }
@@ -303,7 +303,7 @@ pub ticket-written : (G : Setting) (A B : List ℤ) {before output : List ℕ}
 unfolding ticketOf ticketLength records
 ticket-written G A B {before} begins =
     let same : recordBytes * (G .rows * G .inner + G .inner * G .columns + G .rows * G .columns + G .rows * G .columns)
-        ≡ recordBytes * (G .rows * G .inner + G .inner * G .columns + 2 * (G .rows * G .columns)) = omega arith in
+    ≡ recordBytes * (G .rows * G .inner + G .inner * G .columns + 2 * (G .rows * G .columns)) = omega arith in
     begins .is ∙ ap (λ n. ticketOf G A B ++ drop n before) same
 
 -- the whole call

@@ -1,17 +1,19 @@
--- The marked examples a to f and h to k, under the setting K, with the bytes of record 8: one table that the checker computes over
--- the rules.
+-- The marked examples a to k, under the setting K, with the bytes of record 8 and of the whole written ticket, and -17 over 10: one
+-- table that the checker computes over the rules.
 use Prim.Native.Nat.{ℕ, _+_, _-_, _*_, _/_, _%_}
 use mathlib.Core.Path.{_≡_, refl}
 use mathlib.Core.List.{List, [], _∷_, _++_, map}
 use lib.IntN.{ℤ, pos, negℤ}
 use lib.ListN.{take, drop}
 use Rattle.residue.specs.Rules.{modulus, leastResidue, signedEntry}
-use Rattle.algebra.specs.Rules.{sumℤ}
+use Rattle.algebra.specs.Rules.{sumℤ, floorDivision}
 use Rattle.ticket.specs.declared.setting.Setting.{Setting}
 use Rattle.ticket.specs.declared.Answer.{Answer}
 use Rattle.ticket.specs.Rules.{first, sizesWithin, numbersWithin, fits, settingNumber, isEntry, shiftedQuotient, partA, partB, quotients, remainders, records, recordBytes, ticketLength, partOf, bytesOf, valueAt, formed, numberOf, partNumber, recordNumber, firstRefusal, after, recordsReading, reading, valueIn, entryA, entryB, quotient, remainder, claim, exactSum}
 use Rattle.challenge.specs.Rules.{listNumber, listReading, productB, claimSide, operandSide, balanced, firstRow, firstVector, verdict, challengeCheck}
+use Rattle.full.specs.Rules.{same, holds, fullVerdict, fullCheck}
+use Rattle.writer.specs.Rules.{joined, operandNumber, operandsReading, writing, sumOf, quotientOf, remainderOf, recordOf, recordsOf, ticketOf}
 use Rattle.soundness.specs.Laws.Answers.{answer}
 
 minus : ℕ → ℤ
 minus n = negℤ (pos n)
@@ -66,7 +68,8 @@ trueCase = changed (minus 2) (pos 3)
 
 -- each with what is expected last: the sums S; what the claims put for them; quotients and remainders, as read; the bytes of a
 -- record; u, for a vector, as signed entries; the two sides, for a vector; the answer of the reading and range checks; the answer
--- of the challenge check; the number of a setting
+-- of the challenge check; that of the full check; that of the writer for an output of 128 bytes, and the ticket; the number of a
+-- setting; an integer over a number, rounded down
 data Example : Type 0 where
   sums : Case → List ℤ → Example
   claims : Case → List ℤ → Example
@@ -76,7 +79,31 @@ data Example : Type 0 where
   sides : Case → List ℕ → List ℕ → List ℕ → Example
   reads : Case → Answer → Example
   checks : Case → List ℕ → Answer → Example
+  checksAll : Case → Answer → Example
+  writes : Case → Answer → List ℕ → Example
   limits : Setting → ℕ → Example
+  floors : ℤ → ℕ → ℤ → Example
+
+-- A, B, the quotients and the remainders, record by record
+writtenBytes : List ℕ
+writtenBytes =
+    0x01 ∷ 0x00 ∷ 0x00 ∷ 0x00 ∷ 0x03 ∷ 0x00 ∷ 0x00 ∷ 0x00
+    ∷ 0x01 ∷ 0x00 ∷ 0x00 ∷ 0x01 ∷ 0xFD ∷ 0xFF ∷ 0xFF ∷ 0x7F
+    ∷ 0x01 ∷ 0x00 ∷ 0x01 ∷ 0x00 ∷ 0x05 ∷ 0x00 ∷ 0x00 ∷ 0x00
+    ∷ 0x01 ∷ 0x00 ∷ 0x01 ∷ 0x01 ∷ 0x04 ∷ 0x00 ∷ 0x00 ∷ 0x00
+    ∷ 0x02 ∷ 0x00 ∷ 0x00 ∷ 0x00 ∷ 0xFE ∷ 0xFF ∷ 0xFF ∷ 0x7F
+    ∷ 0x02 ∷ 0x00 ∷ 0x00 ∷ 0x01 ∷ 0x06 ∷ 0x00 ∷ 0x00 ∷ 0x00
+    ∷ 0x02 ∷ 0x00 ∷ 0x01 ∷ 0x00 ∷ 0x07 ∷ 0x00 ∷ 0x00 ∷ 0x00
+    ∷ 0x02 ∷ 0x00 ∷ 0x01 ∷ 0x01 ∷ 0xF7 ∷ 0xFF ∷ 0xFF ∷ 0x7F
+    ∷ 0x03 ∷ 0x00 ∷ 0x00 ∷ 0x00 ∷ 0xFD ∷ 0xFF ∷ 0xFF ∷ 0x7F
+    ∷ 0x03 ∷ 0x00 ∷ 0x00 ∷ 0x01 ∷ 0x03 ∷ 0x00 ∷ 0x00 ∷ 0x00
+    ∷ 0x03 ∷ 0x00 ∷ 0x01 ∷ 0x00 ∷ 0x02 ∷ 0x00 ∷ 0x00 ∷ 0x00
+    ∷ 0x03 ∷ 0x00 ∷ 0x01 ∷ 0x01 ∷ 0xFE ∷ 0xFF ∷ 0xFF ∷ 0x7F
+    ∷ 0x04 ∷ 0x00 ∷ 0x00 ∷ 0x00 ∷ 0x03 ∷ 0x00 ∷ 0x00 ∷ 0x00
+    ∷ 0x04 ∷ 0x00 ∷ 0x00 ∷ 0x01 ∷ 0x04 ∷ 0x00 ∷ 0x00 ∷ 0x00
+    ∷ 0x04 ∷ 0x00 ∷ 0x01 ∷ 0x00 ∷ 0x03 ∷ 0x00 ∷ 0x00 ∷ 0x00
+    ∷ 0x04 ∷ 0x00 ∷ 0x01 ∷ 0x01 ∷ 0x08 ∷ 0x00 ∷ 0x00 ∷ 0x00
+    ∷ []
 
 examples : List Example
 examples =
@@ -97,6 +124,9 @@ examples =
     -- f
     ∷ checks (changed (minus 1) (pos 4)) (1 ∷ (modulus - 1) ∷ []) (answer 0 0 0 12)
     ∷ checks (changed (minus 1) (pos 4)) (1 ∷ 1 ∷ []) (answer 12 0 0 8)
+    -- g
+    ∷ checksAll (changed (minus 1) (pos 3)) (answer 16 0 0 2)
+    ∷ checksAll trueCase (answer 0 0 0 8)
     -- h
     ∷ checks (claiming 8 (minus 3 ∷ pos 3 ∷ pos 2 ∷ minus 1 ∷ []) (pos 13 ∷ pos 4 ∷ pos 3 ∷ pos 8 ∷ [])) (1 ∷ 2 ∷ []) (answer 9 12 0 0)
     -- i: the true case has the entry -8
@@ -108,6 +138,10 @@ examples =
     -- k
     ∷ limits (setting 1 65_536 1 14) 0
     ∷ limits (setting 1 65_536 1 15) 3
+    -- the written ticket, and rounding down
+    ∷ writes trueCase (answer 0 128 0 8) writtenBytes
+    ∷ floors (minus 17) 10 (minus 2)
+    ∷ floors (pos 34) 10 (pos 3)
     ∷ []
 
 -- of each claim, row by row
@@ -124,12 +158,16 @@ by-rules (sides c x _ _) =
     sides c x (map (claimSide (c .setting) (ticket c) x 0) (0 ∷ 1 ∷ [])) (map (operandSide (c .setting) (ticket c) x 0) (0 ∷ 1 ∷ []))
 by-rules (reads c _) = reads c (reading (c .setting) (ticket c))
 by-rules (checks c x _) = checks c x (challengeCheck (c .setting) (ticket c) x)
+by-rules (checksAll c _) = checksAll c (fullCheck (c .setting) (ticket c))
+by-rules (writes c _ _) = writes c (writing (c .setting) (c .A) (c .B) 128) (ticketOf (c .setting) (c .A) (c .B))
 by-rules (limits G _) = limits G (settingNumber G)
+by-rules (floors z d _) = floors z d (floorDivision z d)
 
 examples-hold : map by-rules examples ≡ examples
-unfolding modulus leastResidue signedEntry sumℤ first sizesWithin numbersWithin fits settingNumber isEntry shiftedQuotient partA
+unfolding modulus leastResidue signedEntry sumℤ floorDivision first sizesWithin numbersWithin fits settingNumber isEntry shiftedQuotient partA
     partB quotients remainders records ticketLength partOf bytesOf valueAt formed numberOf partNumber recordNumber
     firstRefusal after recordsReading reading valueIn entryA entryB quotient remainder claim exactSum listNumber listReading
-    productB claimSide operandSide balanced firstRow firstVector verdict challengeCheck minus partBytes ticket setting
-    claiming trueRemainders trueCase changed examples each by-rules
+    productB claimSide operandSide balanced firstRow firstVector verdict challengeCheck same holds fullVerdict fullCheck joined
+    operandNumber operandsReading writing sumOf quotientOf remainderOf recordOf recordsOf ticketOf minus partBytes ticket setting
+    claiming trueRemainders trueCase changed writtenBytes examples each by-rules
 examples-hold = refl
