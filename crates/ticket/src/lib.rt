@@ -8,8 +8,8 @@ pub use records::read;
 pub use records::word;
 pub use setting::Setting;
 
-// What a check says: a number of the published table (0: nothing is wrong), its place, and for a caught ticket, one that Freivalds'
-// check rejects, the row. The products made are counted where a ticket is accepted or caught.
+// What a call says: a number of the published table (0: nothing is wrong), its place, and for a caught ticket, one that Freivalds'
+// check rejects, the row. The products made are counted where a ticket is accepted, caught or written, and at an untrue claim.
 #[repr(C)]
 pub struct Answer {
     pub number: u32,

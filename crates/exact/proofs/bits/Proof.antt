@@ -1,5 +1,5 @@
 -- 2^32 is added in 64 bits, where every signed 32-bit number has room.
-use Prim.Native.Nat.{_*_, _^_, _%_, _<_}
+use Prim.Native.Nat.{_^_}
 use native.Mathlib.Omega.{arith}
 use mathlib.Core.Path.{refl, sym, _∙_}
 use lib.Dec.{lit≤}

@@ -10,7 +10,7 @@
 --   sum-joined       n more products are added
 --   sum-further, sum-all   the same for a sum of all products from the first on
 --   dot-is           the rule for two lists of n numbers f 0, f 1, .. and g 0, g 1, ..
-use Prim.Native.Nat.{ℕ, suc, min, _+_, _*_, _%_, _^_, _≤_, _<_}
+use Prim.Native.Nat.{ℕ, suc, _+_, _*_, _%_, _^_, _≤_, _<_}
 use native.Mathlib.Nat.{mul-le-mul, min-eq-left, le-refl}
 use native.Mathlib.Omega.{arith}
 use mathlib.Core.Path.{_≡_, sym, ap, subst⁻¹, _∙_}

@@ -37,12 +37,11 @@ use borrow.Author.Tests.{eq-eqb, ne-eqb, ltb-true}
 use lib.Arith.{digits-lt}
 use lib.Dec.{eqb}
 use lib.IntN.{ℤ, pos, natAbs, _+ℤ_, _-ℤ_, _*ℤ_}
-use lib.ListN.{length, getD, drop, take, length-drop}
-use lib.Seq.{getD-drop, getD-take, length-take-le}
+use lib.ListN.{length, getD, take}
+use lib.Seq.{getD-take, length-take-le}
 use Rattle.residue.specs.Rules.{modulus, leastResidue, signedEntry, powerOfTwo}
-use Rattle.residue.specs.Laws.Integers.{positive, negative, equal-of-parts, parts-sum, parts-difference, parts-product}
-use Rattle.residue.specs.Laws.Modulus.{modulus-is, modulus-positive}
-use Rattle.residue.specs.Laws.Residues.{residue-of-natural}
+use Rattle.residue.specs.Laws.Integers.{positive, equal-of-parts, parts-sum, parts-difference, parts-product}
+use Rattle.residue.specs.Laws.Modulus.{modulus-is}
 use Rattle.exact.specs.Rules.{dotProduct}
 use Rattle.exact.specs.Laws.Products.{dot-is}
 use Rattle.ticket.specs.declared.setting.Setting.{Setting}
@@ -55,13 +54,13 @@ use Rattle.ticket.specs.Laws.Forms.{from, rest, from-long}
 use Rattle.ticket.specs.Laws.Layout.{value-of-part}
 use Rattle.ticket.specs.Laws.Lifts.{lift, Lifted, lift-by-half, lifted-same, lifted-sum}
 use Rattle.ticket.specs.Laws.Limits.{half-of}
-use Rattle.ticket.specs.Laws.Parts.{addedLength, length-by-parts}
+use Rattle.ticket.specs.Laws.Parts.{length-by-parts}
 use Rattle.ticket.specs.Laws.Passes.{Passed, passed-of, valid-A, valid-B, valid-quotient}
 use Rattle.ticket.specs.Laws.Positions.{Position, row-of, column-of, position-within, row-inside}
 use Rattle.ticket.specs.Laws.Scans.{after-passed, after-refused}
 use Rattle.full.specs.Rules.{holds, untrue, fullVerdict, fullCheck}
 use Rattle.full.specs.Laws.Same.{same-equal, same-other}
-use Rattle.full.specs.Laws.Operands.{mostEntries, Long, NarrowAt, Narrow, entryIn}
+use Rattle.full.specs.Laws.Operands.{mostEntries, Long, Narrow, entryIn}
 
 abbrev pub mostClaims : ℕ
 mostClaims = 1024
@@ -134,22 +133,24 @@ shifted-by-half {v} {h} l m = (λ small. sym (mod-eq-of-lt small), λ large. sym
 module _ {G : Setting} {t : List ℕ} (passed : Passed G t) {half : ℕ} (half-is : half ≡ powerOfTwo (G .width - 1)) {q r : List ℕ}
     (q-filled : Filled 0 mostEntries (G .rows * G .columns) (valueAt (from (recordBytes * quotients G .start) t)) q)
     (r-filled : Filled 0 mostEntries (G .rows * G .columns) (valueAt (from (recordBytes * remainders G .start) t)) r) where
-  -- claim c by the values of its two records
+  -- claim c's value in a part of the claims
+  value-at : (P : Part) → P .columns ≡ G .columns → {list : List ℕ}
+      → Filled 0 mostEntries (G .rows * G .columns) (valueAt (from (recordBytes * P .start) t)) list
+      → (c : ℕ) → c < G .rows * G .columns → getD (take (G .rows * G .columns) list) c 0 ≡ valueIn t P (rowOf G c) (columnOf G c)
+  unfolding bytesOf
+  value-at P same {list} filled c l =
+      getD-take (G .rows * G .columns) list c 0 l ∙ filled .each c l
+      ∙ rw (rest (recordBytes * P .start) t) (value-of-part t P c ∙ sym (claim-value G t P c same))
+
   quotient-at : (c : ℕ) → c < G .rows * G .columns
       → getD (take (G .rows * G .columns) q) c 0 ≡ valueIn t (quotients G) (rowOf G c) (columnOf G c)
-  unfolding quotients bytesOf
-  quotient-at c l =
-      getD-take (G .rows * G .columns) q c 0 l ∙ q-filled .each c l
-      ∙ rw (rest (recordBytes * quotients G .start) t)
-      (value-of-part t (quotients G) c ∙ sym (claim-value G t (quotients G) c refl))
+  unfolding quotients
+  quotient-at = value-at (quotients G) refl q-filled
 
   remainder-at : (c : ℕ) → c < G .rows * G .columns
       → getD (take (G .rows * G .columns) r) c 0 ≡ valueIn t (remainders G) (rowOf G c) (columnOf G c)
-  unfolding remainders bytesOf
-  remainder-at c l =
-      getD-take (G .rows * G .columns) r c 0 l ∙ r-filled .each c l
-      ∙ rw (rest (recordBytes * remainders G .start) t)
-      (value-of-part t (remainders G) c ∙ sym (claim-value G t (remainders G) c refl))
+  unfolding remainders
+  remainder-at = value-at (remainders G) refl r-filled
 
   claim-at : (c : ℕ) → c < G .rows * G .columns
       → claimOf (take (G .rows * G .columns) q) (take (G .rows * G .columns) r) half (G .scale) c ≡ claimedAt G t c

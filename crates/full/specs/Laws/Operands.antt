@@ -11,7 +11,7 @@
 use Prim.Native.Nat.{ℕ, suc, _+_, _-_, _*_, _/_, _≤_, _<_, _^_}
 use native.Mathlib.Decide.{decLe}
 use native.Mathlib.Omega.{arith}
-use mathlib.Core.Path.{_≡_, sym, ap, subst, subst⁻¹, _∙_}
+use mathlib.Core.Path.{_≡_, sym, subst, _∙_}
 use mathlib.Core.List.{List}
 use lib.IntN.{ℤ, pos, negsuc, natAbs, _-ℤ_}
 use lib.ListN.{length, getD}
@@ -22,7 +22,7 @@ use Rattle.residue.specs.Rules.{modulus, signedEntry}
 use Rattle.residue.specs.Laws.Modulus.{modulus-is, modulus-positive}
 use Rattle.residue.specs.Laws.Residues.{less-modulus, entry-low, entry-high}
 use Rattle.residue.specs.Laws.Signed.{small-fits}
-use Rattle.ticket.specs.Rules.{recordBytes, valueAt}
+use Rattle.ticket.specs.Rules.{recordBytes}
 
 abbrev pub mostEntries : ℕ
 mostEntries = 2048

@@ -8,7 +8,6 @@
 --   lifted-sum      x is the lifted sum, where it is so modulo 2^32
 --   lifted-same     two integers are equal where their lifts are
 use Prim.Native.Nat.{ℕ, _+_, _-_, _*_, _%_, _^_, _≤_, _<_}
-use native.Mathlib.Nat.{mod-eq-of-lt}
 use native.Mathlib.Omega.{arith}
 use mathlib.Core.Path.{_≡_, refl, sym, ap, _∙_}
 use lib.IntN.{ℤ, pos, negsuc, natAbs, _+ℤ_}

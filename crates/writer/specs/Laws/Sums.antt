@@ -17,7 +17,7 @@ use mathlib.Core.Path.{_≡_, refl, sym, ap, _∙_}
 use mathlib.Core.List.{List}
 use lib.Arith.{digits-lt}
 use lib.IntN.{ℤ, pos, natAbs, _+ℤ_, _-ℤ_, _*ℤ_}
-use lib.ListN.{length, getD, set, take, drop, length-set}
+use lib.ListN.{length, getD, set, length-set}
 use lib.Seq.{getD-set-same, getD-set-other}
 use Rattle.residue.specs.Rules.{modulus, leastResidue, powerOfTwo}
 use Rattle.residue.specs.Laws.Integers.{positive, negative, equal-of-parts, parts-sum, parts-difference, parts-product}
@@ -30,7 +30,7 @@ use Rattle.exact.specs.Rules.{dotProduct}
 use Rattle.exact.specs.Laws.Products.{dot-is}
 use Rattle.ticket.specs.declared.setting.Setting.{Setting}
 use Rattle.ticket.specs.Laws.Fills.{Filled, Columns, part-of, part-long, lineOf}
-use Rattle.ticket.specs.Laws.Lifts.{lift, Lifted, lift-by-half, lift-small, lifted-sum, lifted-small}
+use Rattle.ticket.specs.Laws.Lifts.{lift, Lifted, lift-by-half, lifted-sum, lifted-small}
 use Rattle.ticket.specs.Laws.Limits.{Counts, Numbers, Fitted, half-of}
 use Rattle.ticket.specs.Laws.Positions.{Position, row-of, column-of, position-within, row-inside}
 use Rattle.writer.specs.Rules.{entryOf, sumOf, quotientOf, remainderOf}
