@@ -10,10 +10,10 @@ ghost use Rattle.exact.specs.Laws.Products.{sumWith};
 // 2^32
 const WORD: u64 = 4_294_967_296;
 
-// Products are added up in blocks of 8 rows of 8: loops of fixed lengths, which a compiler lays out flat and makes many at a time.
-const ROW: usize = 8;
+// Products are added up in blocks of two rows of 32: loops of fixed lengths, which a compiler lays out flat and makes many at a time.
+const ROW: usize = 32;
 
-const BLOCK: usize = ROW * ROW;
+const BLOCK: usize = 2 * ROW;
 
 // The sum of the products of two lists, number by number, up to the end of the shorter one, modulo 2^32.
 pub fn dot(x: &[i16], y: &[i16]) -> u32

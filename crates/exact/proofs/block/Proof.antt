@@ -6,7 +6,7 @@ use Rattle.exact.proofs.block.Statement.{statement}
 use Rattle.exact.proofs.block.Tie as tie
 
 abbrev Inv-loop : tie.InvT-loop
-Inv-loop x y start before sum₀ k₀ sum k = (k ≤ 64) × (k % 8 ≡ 0) × (sum ≡ sumWith before start k x y)
+Inv-loop x y start before sum₀ k₀ sum k = (k ≤ 64) × (k % 32 ≡ 0) × (sum ≡ sumWith before start k x y)
 
 abbrev μ-loop : tie.MeasureT-loop
 μ-loop x y start before sum₀ k₀ sum k = 64 - k
@@ -27,7 +27,7 @@ loop-less : tie.Need-loop-less Inv-loop μ-loop
 loop-less c = omega arith
 
 loop-again : tie.Need-loop-again Inv-loop μ-loop
-loop-again c = (omega arith, omega arith, sum-joined (c .before .before .before .args .x .now) (c .before .before .before .args .y .now) (c .before .before .before .args .before) (c .before .before .before .args .start) (c .before .before .loop .k) 8 (c .before .before .loop .inv .2) (c .products .ensures))
+loop-again c = (omega arith, omega arith, sum-joined (c .before .before .before .args .x .now) (c .before .before .before .args .y .now) (c .before .before .before .args .before) (c .before .before .before .args .start) (c .before .before .loop .k) 32 (c .before .before .loop .inv .2) (c .products .ensures))
 
 returns : tie.Need-returns Inv-loop μ-loop
 returns c = let all : c .before .loop .k ≡ 64 = omega arith in c .before .loop .inv .2 ∙ ap (λ n. sumWith (c .before .before .args .before) (c .before .before .args .start) n (c .before .before .args .x .now) (c .before .before .args .y .now)) all
