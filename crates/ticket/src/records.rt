@@ -5,8 +5,8 @@ ghost use lib.ListN.{length};
 ghost use Rattle.ticket.specs.Rules.{after, reading, recordsReading, recordBytes, formed, valueAt};
 ghost use Rattle.ticket.specs.Laws.Limits.{Counts, Numbers};
 ghost use Rattle.ticket.specs.Laws.All.{all};
-ghost use Rattle.ticket.specs.Laws.Forms.{from, partAnswer, testedAt, Within, Holds};
-ghost use Rattle.ticket.specs.Laws.Passing.{passing, inForm, rowInForm, valueMisses};
+ghost use Rattle.ticket.specs.Laws.Forms.{from, partAnswer, testedAt, Holds, Ranged, Within};
+ghost use Rattle.ticket.specs.Laws.Passing.{passing, passingAt, rowPassing};
 use crate::Answer;
 use crate::Setting;
 use residue::Residue;
@@ -15,7 +15,7 @@ use residue::Residue;
 pub const RECORD: usize = 8;
 
 // Rows of at most so many records are not worth the pass without branches.
-const FEW: u8 = 3;
+const FEW: u8 = 2;
 
 // What the records of a part have to be. A value is in range where, shift added modulo p, it is below limit; outside is the
 // number of the answer for one that is not.
@@ -130,65 +130,49 @@ fn read_part(earlier: Answer, ticket: &[u8], form: Form, start: u32) -> Answer
     first_refusal(records, form, start)
 }
 
-// Whether all records of a part pass. Below p, a value is out of range from limit - shift on and below p - shift.
+// Whether all records of a part pass.
 fn passes(records: &[u8], form: Form) -> bool
     requires { ⌜ Holds (now records) form ⌝ }
     ensures { λ r. ⌜ r ≡ all (form .rows * form .columns) (passing (now (records .entry)) form) ⌝ }
-{
-    let n = (form.rows as usize) * (form.columns as usize);
-    let low = form.limit - form.shift;
-    let size = Residue::MODULUS - form.limit;
-    let above = u32::MAX - Residue::MODULUS + 1;
-    all_formed(records, form)
-        & values_miss(records, n, Residue::MODULUS, above)
-        & values_miss(records, n, low, size)
-}
-
-// Whether all records of a part have their form.
-fn all_formed(records: &[u8], form: Form) -> bool
-    requires { ⌜ Holds (now records) form ⌝ }
-    ensures { λ r. ⌜ r ≡ all (form .rows * form .columns) (inForm (now (records .entry)) form) ⌝ }
 {
     let mut ok = true;
     let mut row: u8 = 0;
     let mut start: usize = 0;
     while row < form.rows {
-        ok = ok & row_formed(records, form, start, row);
+        ok = ok & row_passes(records, form, start, row);
         start += form.columns as usize;
         row += 1;
     }
     ok
 }
 
-// Whether the records of a row have their form, the first of which is record start.
-fn row_formed(records: &[u8], form: Form, start: usize, row: u8) -> bool
-    requires { ⌜ recordBytes * (start + form .columns) ≤ length (now records) ⌝ }
-    ensures { λ r. ⌜ r ≡ all (form .columns) (rowInForm (now (records .entry)) form start row) ⌝ }
+// Whether the records of a row pass, the first of which is record start.
+fn row_passes(records: &[u8], form: Form, start: usize, row: u8) -> bool
+    requires { ⌜ (recordBytes * (start + form .columns) ≤ length (now records)) × Ranged form ⌝ }
+    ensures { λ r. ⌜ r ≡ all (form .columns) (rowPassing (now (records .entry)) form start row) ⌝ }
 {
     let mut ok = true;
     let mut i = start;
     let mut column: u8 = 0;
     while column < form.columns {
-        ok = ok & formed(records, i, form.kind, row, column);
+        ok = ok & record_passes(records, form, i, row, column);
         i += 1;
         column += 1;
     }
     ok
 }
 
-// Whether no value of the first n records is one of the size numbers from low on. The test has no branch and the value
-// stands in it once, so that the compiler tests several records at a time.
-fn values_miss(records: &[u8], n: usize, low: u32, size: u32) -> bool
-    requires { ⌜ (recordBytes * n ≤ length (now records)) × (low + size ≤ 2 ^ 32) ⌝ }
-    ensures { λ r. ⌜ r ≡ all n (valueMisses (now (records .entry)) low size) ⌝ }
+// Whether record i passes, which stands in the given row and column. Below p, a value is out of range where it is one of the size
+// numbers from low on. The tests have no branch, so that the compiler makes those of several records at a time.
+fn record_passes(records: &[u8], form: Form, i: usize, row: u8, column: u8) -> bool
+    requires { ⌜ (recordBytes * i + recordBytes ≤ length (now records)) × Ranged form ⌝ }
+    ensures { λ r. ⌜ r ≡ passingAt (now (records .entry)) form i row column ⌝ }
 {
-    let mut ok = true;
-    let mut i: usize = 0;
-    while i < n {
-        ok = ok & (size <= std::num::wrapping_sub_u32(value(records, i), low));
-        i += 1;
-    }
-    ok
+    let low = form.limit - form.shift;
+    let size = Residue::MODULUS - form.limit;
+    formed(records, i, form.kind, row, column)
+        & (value(records, i) < Residue::MODULUS)
+        & (size <= std::num::wrapping_sub_u32(value(records, i), low))
 }
 
 // The answer of a part, the first record of which is record start of the ticket.

@@ -3,8 +3,9 @@
 --   testedAt b F i r c   the number of record i of b by the form F, which stands in row r, column c
 --   tested b F i         the same, the row and the column from i
 --   partAnswer F a b     the answer of the part that b begins with, of which the first record has the number a
---   Within t F a         t has the part of form F from record a on, neither is large, and the range is within p
---   Holds b F            b begins with the part of form F, and the same holds
+--   Within t F a         t has the part of form F from record a on, neither is large, and the range of F is within p
+--   Ranged F             the range of F is within p
+--   Holds b F            b begins with the part of form F, which is not large, and the same holds
 --   from k t             a slice of t from byte k to the end
 --   rest, from-long      it holds what is left of the bytes
 --   recordOf b i         the bytes of record i of b, as a slice
@@ -46,20 +47,22 @@ tested bytes F i = testedAt bytes F i (i / F .columns) (i % F .columns)
 abbrev pub partAnswer : Form → ℕ → List ℕ → Answer
 partAnswer F start bytes = firstRefusal start (F .rows * F .columns) (tested bytes F)
 
+pub record Ranged (F : Form) : Type 0 where
+  pub shift : F .shift ≤ F .limit
+  pub limit : F .limit ≤ 2 ^ 31 - 1
+
 pub record Within (t : List ℕ) (F : Form) (start : ℕ) : Type 0 where
   pub columns : 1 ≤ F .columns
   pub few : F .rows * F .columns < 2 ^ 16
   pub long : recordBytes * (start + F .rows * F .columns) ≤ length t
   pub small : start < 2 ^ 16
-  pub shift : F .shift ≤ F .limit
-  pub limit : F .limit ≤ 2 ^ 31 - 1
+  pub range : Ranged F
 
 pub record Holds (bytes : List ℕ) (F : Form) : Type 0 where
   pub columns : 1 ≤ F .columns
   pub few : F .rows * F .columns < 2 ^ 16
   pub long : recordBytes * (F .rows * F .columns) ≤ length bytes
-  pub shift : F .shift ≤ F .limit
-  pub limit : F .limit ≤ 2 ^ 31 - 1
+  pub range : Ranged F
 
 abbrev pub from : ℕ → List ℕ → List ℕ
 from k t = take (length t - k) (drop k t)

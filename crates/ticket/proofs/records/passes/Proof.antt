@@ -1,53 +1,54 @@
-use borrow.Author.Needs.{needs}
-use Rattle.ticket.specs.Laws.Passing.{all-passing}
+use Prim.Native.Nat.{_*_, _-_, _≤_}
+use native.Mathlib.Omega.{arith}
+use mathlib.Core.Path.{_≡_, refl, ap, _∙_}
+use Rattle.ticket.specs.Laws.All.{all}
+use Rattle.ticket.specs.Laws.Passing.{passing, rows-passing}
+use Rattle.ticket.specs.Laws.Positions.{row-inside}
 use Rattle.ticket.proofs.records.passes.Statement.{statement}
 use Rattle.ticket.proofs.records.passes.Tie as tie
 
-cast-n : tie.Need-cast-n
-cast-n c = search needs
+abbrev Inv-loop : tie.InvT-loop
+Inv-loop records form ok₀ row₀ start₀ ok row start = (row ≤ form .rows) × (start ≡ row * form .columns) × (ok ≡ all start (passing records form))
 
-cast-n-2 : tie.Need-cast-n-2
-cast-n-2 c = search needs
+abbrev μ-loop : tie.MeasureT-loop
+μ-loop records form ok₀ row₀ start₀ ok row start = form .rows - row
 
-mul-n : tie.Need-mul-n
-mul-n c = search needs
+loop-holds : tie.Need-loop-holds Inv-loop μ-loop
+unfolding all
+loop-holds c = (omega arith, omega arith, refl)
 
-sub-low : tie.Need-sub-low
-sub-low c = search needs
+row-passes-requires : tie.Need-row-passes-requires Inv-loop μ-loop
+row-passes-requires c κs = (omega (arith, row-inside (c .before .before .before .before .args .form .columns) (c .if1 .taken)), c .before .before .before .before .pre .range)
 
-sub-size : tie.Need-sub-size
-sub-size c = search needs
+cast-start : tie.Need-cast-start Inv-loop μ-loop
+cast-start c = omega arith
 
-sub-above : tie.Need-sub-above
-sub-above c = search needs
+add-start : tie.Need-add-start Inv-loop μ-loop
+add-start c = omega (arith, row-inside (c .before .before .before .before .before .before .args .form .columns) (c .before .before .if1 .taken))
 
-add-above : tie.Need-add-above
-add-above c = search needs
+add-row : tie.Need-add-row Inv-loop μ-loop
+add-row c = omega arith
 
-all-formed-requires : tie.Need-all-formed-requires
-all-formed-requires c κs = search needs
+loop-less : tie.Need-loop-less Inv-loop μ-loop
+loop-less c = omega arith
 
-values-miss-requires : tie.Need-values-miss-requires
-values-miss-requires c κs = search needs
+loop-again : tie.Need-loop-again Inv-loop μ-loop
+loop-again c = (omega arith, omega arith, rows-passing (c .before .before .before .before .before .before .args .records .now) (c .before .before .before .before .before .before .args .form) _ (c .before .before .before .before .loop .inv .1) (c .before .before .before .before .loop .inv .2) (c .before .row-passes .ensures))
 
-values-miss-requires-2 : tie.Need-values-miss-requires-2
-values-miss-requires-2 c κs = search needs
-
-returns : tie.Need-returns
-returns c = all-passing (c .before .before .before .before .before .before .before .before .args .records .now) (c .before .before .before .before .before .before .before .before .args .form) (c .before .before .before .before .before .before .before .before .pre) _ (c .before .before .all-formed .ensures) (c .before .values-miss .ensures) (c .values-miss2 .ensures)
+returns : tie.Need-returns Inv-loop μ-loop
+returns c = c .before .before .loop .inv .2 ∙ ap (λ n. all n (passing (c .before .before .before .before .args .records .now) (c .before .before .before .before .args .form))) (c .before .before .loop .inv .1 ∙ ap (λ n. n * c .before .before .before .before .args .form .columns) (omega arith))
 
 pub passes-spec : {M : Type 1} → statement M
 passes-spec =
     tie.close
     (tie.spec
-    cast-n
-    cast-n-2
-    mul-n
-    sub-low
-    sub-size
-    sub-above
-    add-above
-    all-formed-requires
-    values-miss-requires
-    values-miss-requires-2
+    Inv-loop
+    μ-loop
+    loop-holds
+    row-passes-requires
+    cast-start
+    add-start
+    add-row
+    loop-less
+    loop-again
     returns)
