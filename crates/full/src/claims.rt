@@ -1,82 +1,105 @@
 // Test 16: every claim, row by row.
 ghost use mathlib.Core.Path.{_≡_};
-ghost use Prim.Native.Nat.{_+_, _-_, _*_, _%_, _<_};
+ghost use Prim.Native.Nat.{_+_, _-_, _*_, _%_, _≤_, _<_};
 ghost use lib.ListN.{length};
-ghost use Rattle.residue.specs.Rules.{modulus, powerOfTwo};
+ghost use Rattle.residue.specs.Rules.{modulus};
 ghost use Rattle.ticket.specs.Laws.Fills.{Filled};
 ghost use Rattle.ticket.specs.Laws.Passes.{Passed};
 ghost use Rattle.full.specs.Rules.{fullVerdict};
-ghost use Rattle.full.specs.Laws.Claims.{claimedAt, claimOf, ClaimsSmall, compareAnswer, comparedAnswer, CompareReady, mostClaims};
+ghost use Rattle.full.specs.Laws.Claims.{claimOf, ClaimsSmall, compareAnswer, comparedAnswer, ComparedTo, CompareReady, Room, RowCompared};
 use crate::operands::columns;
 use crate::operands::rows;
-use crate::operands::values;
+use crate::operands::value;
 use residue::Residue;
 use ticket::Answer;
 use ticket::RECORD;
 use ticket::Setting;
 
+// The most entries of an operand.
+const ENTRIES: usize = 2048;
+
 // The most claims.
 const CLAIMS: usize = 1024;
 
-// All claims, one after the other, up to the first untrue one. Sums and claims are lifted by 2^(v - 1) times the scale, so that
-// none is negative; both are then known from their value modulo 2^32.
+// Tickets of at most so many entries and claims are worked through in small arrays, which take little time to clear.
+const FEW: usize = 192;
+
+// All claims, one after the other, up to the first untrue one.
 pub(crate) fn check_claims(setting: Setting, ticket: &[u8]) -> Answer
     requires { ⌜ Passed setting (now ticket) ⌝ }
+    ensures { λ r. ⌜ r ≡ fullVerdict setting (now (ticket .entry)) ⌝ }
+{
+    let entries = setting.rows * setting.inner + setting.inner * setting.columns;
+    if entries + setting.rows * setting.columns <= (FEW as u32) {
+        return check_few(setting, ticket);
+    }
+    check_many(setting, ticket)
+}
+
+fn check_few(setting: Setting, ticket: &[u8]) -> Answer
+    requires { ⌜ Passed setting (now ticket) × (setting .rows * setting .inner + setting .inner * setting .columns + setting .rows * setting .columns ≤ 192) ⌝ }
+    ensures { λ r. ⌜ r ≡ fullVerdict setting (now (ticket .entry)) ⌝ }
+{
+    let mut a = [0; FEW];
+    let mut b = [0; FEW];
+    let mut claims = [0; FEW];
+    compare_claims(setting, ticket, &mut a, &mut b, &mut claims)
+}
+
+fn check_many(setting: Setting, ticket: &[u8]) -> Answer
+    requires { ⌜ Passed setting (now ticket) ⌝ }
+    ensures { λ r. ⌜ r ≡ fullVerdict setting (now (ticket .entry)) ⌝ }
+{
+    let mut a = [0; ENTRIES];
+    let mut b = [0; ENTRIES];
+    let mut claims = [0; CLAIMS];
+    compare_claims(setting, ticket, &mut a, &mut b, &mut claims)
+}
+
+// The same, with room for the operands and the claims. Sums and claims are lifted by 2^(v - 1) times the scale, so that none is
+// negative; both are then known from their value modulo 2^32.
+fn compare_claims(
+    setting: Setting,
+    ticket: &[u8],
+    a: &mut [i16],
+    b: &mut [i16],
+    claims: &mut [u32],
+) -> Answer
+    requires { ⌜ Passed setting (now ticket) × Room setting (length (now a)) (length (now b)) (length (now claims)) ⌝ }
     ensures { λ r. ⌜ r ≡ fullVerdict setting (now (ticket .entry)) ⌝ }
 {
     let inner = setting.inner as usize;
     let width = setting.columns as usize;
     let of_a = (setting.rows as usize) * inner;
     let of_b = inner * width;
-    let at = RECORD * of_a;
-    let a = values(ticket, of_a);
-    let b = values(&ticket[at..], of_b);
-    let a_rows = rows(&a[..of_a]);
-    let b_columns = columns(&b[..of_b], inner, width);
-    let half = Residue::power_of_two(setting.width - 1).0;
-    let claims = claimed(setting, ticket, half);
     let count = (setting.rows as usize) * width;
-    compare(
-        &a_rows,
-        &b_columns,
-        &claims[..count],
-        inner,
-        width,
-        half * setting.scale,
-    )
-}
-
-// What each claim puts for its sum, lifted.
-fn claimed(setting: Setting, ticket: &[u8], half: u32) -> [u32; CLAIMS]
-    requires { ⌜ Passed setting (now ticket) × (half ≡ powerOfTwo (setting .width - 1)) ⌝ }
-    ensures { λ r. ⌜ Filled 0 mostClaims (setting .rows * setting .columns) (claimedAt setting (now (ticket .entry))) r ⌝ }
-{
-    let operands = (setting.rows * setting.inner + setting.inner * setting.columns) as usize;
-    let count = (setting.rows * setting.columns) as usize;
-    let of_quotients = RECORD * operands;
-    let of_remainders = RECORD * (operands + count);
-    let quotients = values(&ticket[of_quotients..], count);
-    let remainders = values(&ticket[of_remainders..], count);
+    let from_b = RECORD * of_a;
+    let from_quotients = RECORD * (of_a + of_b);
+    let from_remainders = RECORD * (of_a + of_b + count);
+    let half = Residue::power_of_two(setting.width - 1).0;
+    rows(ticket, of_a, a);
+    columns(&ticket[from_b..], inner, width, b);
     lift(
-        &quotients[..count],
-        &remainders[..count],
+        &ticket[from_quotients..],
+        &ticket[from_remainders..],
+        count,
         half,
         setting.scale,
-    )
+        claims,
+    );
+    compare(a, b, &claims[..count], inner, width, half * setting.scale)
 }
 
-// Each quotient, with half of the quotients' range added, times the scale, and its remainder.
-fn lift(quotients: &[u32], remainders: &[u32], half: u32, scale: u32) -> [u32; CLAIMS]
-    requires { ⌜ ClaimsSmall (now quotients) (now remainders) half scale ⌝ }
-    ensures { λ r. ⌜ Filled 0 mostClaims (length (now (quotients .entry))) (claimOf (now (quotients .entry)) (now (remainders .entry)) half scale) r ⌝ }
+// What each claim puts for its sum, lifted: the quotient, with half of the quotients' range added, times the scale, and the remainder.
+fn lift(quotients: &[u8], remainders: &[u8], count: usize, half: u32, scale: u32, list: &mut [u32])
+    requires { ⌜ ClaimsSmall (now quotients) (now remainders) count half scale (length (now list)) ⌝ }
+    ensures { λ r. ⌜ Filled 0 (length (now (list .entry))) count (claimOf (now (quotients .entry)) (now (remainders .entry)) half scale) (now (list .exit)) ⌝ }
 {
-    let mut list = [0; CLAIMS];
     let mut c = 0;
-    while c < quotients.len() {
-        list[c] = shifted(quotients[c], half) * scale + remainders[c];
+    while c < count {
+        list[c] = shifted(value(quotients, c), half) * scale + value(remainders, c);
         c += 1;
     }
-    list
 }
 
 // A quotient's value with half of the quotients' range added, modulo p.
@@ -104,13 +127,42 @@ fn compare(
     ensures { λ r. ⌜ r ≡ compareAnswer (now (rows .entry)) (now (columns .entry)) (now (claims .entry)) inner width lift ⌝ }
 {
     let mut answer = Answer::PASSED;
-    let mut c = 0;
     let mut row = 0;
-    let mut column = 0;
+    let mut c = 0;
     while c < claims.len() {
-        let a = row * inner;
-        let b = column * inner;
-        let sum = exact::dot(&rows[a..a + inner], &columns[b..b + inner]);
+        answer = compare_row(rows, columns, claims, inner, width, lift, row, answer);
+        if answer.number != 0 {
+            return answer;
+        }
+        row += 1;
+        c += width;
+    }
+    answer
+}
+
+// The sums of one row, after the answer of the rows before it.
+fn compare_row(
+    rows: &[i16],
+    columns: &[i16],
+    claims: &[u32],
+    inner: usize,
+    width: usize,
+    lift: u32,
+    row: usize,
+    before: Answer,
+) -> Answer
+    requires { ⌜ CompareReady (now rows) (now columns) (now claims) inner width × (row * width + width ≤ length (now claims)) × ComparedTo (now rows) (now columns) (now claims) inner width lift (row * width) before ⌝ }
+    ensures { λ r. ⌜ RowCompared (now (rows .entry)) (now (columns .entry)) (now (claims .entry)) inner width lift (row * width + width) r ⌝ }
+{
+    let at = row * inner;
+    let entries = &rows[at..at + inner];
+    let start = row * width;
+    let mut answer = before;
+    let mut column = 0;
+    while column < width {
+        let from = column * inner;
+        let sum = exact::dot(entries, &columns[from..from + inner]);
+        let c = start + column;
         let made = answer.products + (inner as u32);
         answer = compared(
             std::num::wrapping_add_u32(sum, lift),
@@ -121,12 +173,7 @@ fn compare(
         if answer.number != 0 {
             return answer;
         }
-        c += 1;
         column += 1;
-        if column == width {
-            column = 0;
-            row += 1;
-        }
     }
     answer
 }

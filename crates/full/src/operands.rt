@@ -1,71 +1,57 @@
 // The values of a ticket that passes the reading and range checks, and its operands as 16-bit numbers.
 ghost use mathlib.Core.Path.{_≡_};
-ghost use Prim.Native.Nat.{_+_, _*_, _≤_};
+ghost use Prim.Native.Nat.{_+_, _*_, _≤_, _<_};
 ghost use lib.IntN.{pos};
 ghost use lib.ListN.{length};
 ghost use Rattle.residue.specs.Rules.{modulus, signedEntry};
 ghost use Rattle.ticket.specs.Rules.{recordBytes, valueAt};
-ghost use Rattle.ticket.specs.Laws.Fills.{Columns, Filled};
-ghost use Rattle.full.specs.Laws.Operands.{entryIn, Long, mostEntries, Narrow, NarrowAt};
+ghost use Rattle.ticket.specs.Laws.Fills.{Columns, ColumnsTo, Filled};
+ghost use Rattle.full.specs.Laws.Operands.{entryAt, NarrowAt, NarrowRecords};
 use residue::Residue;
 use ticket::RECORD;
 use ticket::word;
 
-// The most entries of an operand.
-pub(crate) const ENTRIES: usize = 2048;
-
-// The values of the first records.
-pub(crate) fn values(records: &[u8], count: usize) -> [u32; ENTRIES]
-    requires { ⌜ Long (now records) count ⌝ }
-    ensures { λ r. ⌜ Filled 0 mostEntries count (valueAt (now (records .entry))) r ⌝ }
+// The entries of a matrix, row by row, from its records.
+pub(crate) fn rows(records: &[u8], count: usize, list: &mut [i16])
+    requires { ⌜ NarrowRecords (now records) count (length (now list)) ⌝ }
+    ensures { λ r. ⌜ Filled (pos 0) (length (now (list .entry))) count (entryAt (now (records .entry))) (now (list .exit)) ⌝ }
 {
-    let mut list = [0; ENTRIES];
     let mut k = 0;
     while k < count {
-        list[k] = value(records, k);
+        list[k] = entry(value(records, k));
         k += 1;
     }
-    list
 }
 
-// The entries of a matrix, row by row, from the values of its records.
-pub(crate) fn rows(values: &[u32]) -> [i16; ENTRIES]
-    requires { ⌜ Narrow (now values) ⌝ }
-    ensures { λ r. ⌜ Filled (pos 0) mostEntries (length (now (values .entry))) (entryIn (now (values .entry))) r ⌝ }
+// The entries of a matrix, column by column, from its records, which are row by row.
+pub(crate) fn columns(records: &[u8], height: usize, width: usize, list: &mut [i16])
+    requires { ⌜ NarrowRecords (now records) (height * width) (length (now list)) ⌝ }
+    ensures { λ r. ⌜ Columns (pos 0) (length (now (list .entry))) height width (entryAt (now (records .entry))) (now (list .exit)) ⌝ }
 {
-    let mut list = [0; ENTRIES];
-    let mut k = 0;
-    while k < values.len() {
-        list[k] = entry(values[k]);
-        k += 1;
-    }
-    list
-}
-
-// The entries of a matrix, column by column, from the values of its records, which are row by row.
-pub(crate) fn columns(values: &[u32], height: usize, width: usize) -> [i16; ENTRIES]
-    requires { ⌜ (1 ≤ width) × (length (now values) ≡ height * width) × Narrow (now values) ⌝ }
-    ensures { λ r. ⌜ Columns (pos 0) mostEntries height width (entryIn (now (values .entry))) r ⌝ }
-{
-    let mut list = [0; ENTRIES];
-    let mut k = 0;
     let mut row = 0;
-    let mut column = 0;
-    while k < values.len() {
-        let at = column * height + row;
-        list[at] = entry(values[k]);
-        k += 1;
-        column += 1;
-        if column == width {
-            column = 0;
-            row += 1;
-        }
+    while row < height {
+        spread(records, height, width, row, list);
+        row += 1;
     }
-    list
+}
+
+// One row of the matrix: an entry for each column.
+fn spread(records: &[u8], height: usize, width: usize, row: usize, list: &mut [i16])
+    requires { ⌜ (row < height) × NarrowRecords (now records) (height * width) (length (now list)) × ColumnsTo (pos 0) (length (now list)) height width (row * width) (entryAt (now records)) (now list) ⌝ }
+    ensures { λ r. ⌜ ColumnsTo (pos 0) (length (now (list .entry))) height width (row * width + width) (entryAt (now (records .entry))) (now (list .exit)) ⌝ }
+{
+    let start = row * width;
+    let mut column = 0;
+    let mut at = row;
+    while column < width {
+        list[at] = entry(value(records, start + column));
+        column += 1;
+        at += height;
+    }
 }
 
 // The value of a record.
-fn value(records: &[u8], k: usize) -> u32
+pub(crate) fn value(records: &[u8], k: usize) -> u32
     requires { ⌜ recordBytes * k + recordBytes ≤ length (now records) ⌝ }
     ensures { λ r. ⌜ r ≡ valueAt (now (records .entry)) k ⌝ }
 {

@@ -5,12 +5,12 @@
 --   row-within, column-within   they are within their limits
 --   claimedAt G t c      what claim c puts for its sum, by the values of its records, lifted
 --   claimed-is           it is that
---   prefix-long          the first n of a filled list are n
---   claimOf q r h a c    the same from the lists of quotients' and remainders' values, h being 2^(v - 1) and a the scale
---   ClaimsSmall q r h a  none of them is large
+--   claimOf q r h a c    the same from the records of the quotients and of the remainders, h being 2^(v - 1) and a the scale
+--   ClaimsSmall q r n h a s   none of the n claims is large, and a list of s numbers has room for them
 --   shifted-by-half      a sum of two numbers below p, modulo p
---   claims-small         those of a ticket that passes are not large
---   claims-filled        then they are what the claims put
+--   Room G a b c         there is room for the operands and the claims
+--   claim-at             in a ticket that passes, the first of these is the second
+--   claims-small         and none is large
 --   comparedAnswer s y c n   the answer of a sum s and its claim y, number c, after n products
 --   sumAt A B m n l c    sum c, lifted by l, modulo 2^32: from the rows A and the columns B, m numbers each, n columns
 --   agrees A B Y m n l c   sum c is what the claims Y put for it
@@ -18,9 +18,10 @@
 --   CompareReady A B Y m n   rows and columns are as long as the claims need them
 --   LinesInside A B m i j, lines-inside   row i of A and column j of B are there
 --   ComparedTo .. c a    the sums before c agree, and a is the answer so far
+--   RowCompared .. c a   the same, or a is the answer of the first that does not
 --   compared-products    there are not many products
+--   compared-at          another name for the number of sums
 --   compared-none, compared-more, compared-stopped, compared-ended   no sum, one more, the first that does not agree, and the last
---   long-A, long-B, long-quotients, long-remainders   the records of a part are there
 --   narrow-A, narrow-B   the operands are 16-bit numbers
 --   compare-ready        a ticket that passes is ready to be compared
 --   compare-verdict      the answer of its comparison is the verdict
@@ -37,7 +38,7 @@ use borrow.Author.Tests.{eq-eqb, ne-eqb, ltb-true}
 use lib.Arith.{digits-lt}
 use lib.Dec.{eqb}
 use lib.IntN.{ℤ, pos, natAbs, _+ℤ_, _-ℤ_, _*ℤ_}
-use lib.ListN.{length, getD, take}
+use lib.ListN.{length, getD, take, length-drop}
 use lib.Seq.{getD-take, length-take-le}
 use Rattle.residue.specs.Rules.{modulus, leastResidue, signedEntry, powerOfTwo}
 use Rattle.residue.specs.Laws.Integers.{positive, equal-of-parts, parts-sum, parts-difference, parts-product}
@@ -60,7 +61,7 @@ use Rattle.ticket.specs.Laws.Positions.{Position, row-of, column-of, position-w
 use Rattle.ticket.specs.Laws.Scans.{after-passed, after-refused}
 use Rattle.full.specs.Rules.{holds, untrue, fullVerdict, fullCheck}
 use Rattle.full.specs.Laws.Same.{same-equal, same-other}
-use Rattle.full.specs.Laws.Operands.{mostEntries, Long, Narrow, entryIn}
+use Rattle.full.specs.Laws.Operands.{mostEntries, NarrowRecords, entryAt}
 
 abbrev pub mostClaims : ℕ
 mostClaims = 1024
@@ -110,55 +111,58 @@ claim-value G t P c e =
     value-of-part t P (rowOf G c * P .columns + columnOf G c)
     ∙ ap (valueAt t) (omega (arith, ap (λ n. rowOf G c * n) e, div-add-mod' c (G .columns)))
 
--- the lists of values
-
-pub prefix-long : {f : ℕ → ℕ} {size n : ℕ} {list : List ℕ} → n ≤ size → Filled 0 size n f list → n ≡ length (take n list)
-prefix-long {n = n} {list = list} l filled = sym (length-take-le n list (omega (arith, filled .long)))
+-- the lists of claims
 
 abbrev pub claimOf : List ℕ → List ℕ → ℕ → ℕ → ℕ → ℕ
-claimOf q r half scale c = (getD q c 0 + half) % modulus * scale + getD r c 0
+claimOf q r half scale c = (valueAt q c + half) % modulus * scale + valueAt r c
 
-pub record ClaimsSmall (q r : List ℕ) (half scale : ℕ) : Type 0 where
-  pub few : length q ≤ mostClaims
-  pub long : length r ≡ length q
+pub record ClaimsSmall (q r : List ℕ) (count half scale room : ℕ) : Type 0 where
+  pub few : count ≤ room
+  pub small : room ≤ mostClaims
+  pub long-q : recordBytes * count ≤ length q
+  pub long-r : recordBytes * count ≤ length r
   pub half-below : half < modulus
-  pub below : (c : ℕ) → c < length q → getD q c 0 < modulus
-  pub product : (c : ℕ) → c < length q → (getD q c 0 + half) % modulus * scale < 2 ^ 31
-  pub sum : (c : ℕ) → c < length q → claimOf q r half scale c < 2 ^ 31
+  pub below : (c : ℕ) → c < count → valueAt q c < modulus
+  pub product : (c : ℕ) → c < count → (valueAt q c + half) % modulus * scale < 2 ^ 31
+  pub sum : (c : ℕ) → c < count → claimOf q r half scale c < 2 ^ 31
 
 pub shifted-by-half : {v h : ℕ} → v < modulus → h < modulus → ((v + h < modulus) → v + h ≡ (v + h) % modulus)
     × ((modulus ≤ v + h) → v + h - modulus ≡ (v + h) % modulus)
 shifted-by-half {v} {h} l m = (λ small. sym (mod-eq-of-lt small), λ large. sym (mod-eq-sub-mod large ∙ mod-eq-of-lt (omega arith)))
 
-module _ {G : Setting} {t : List ℕ} (passed : Passed G t) {half : ℕ} (half-is : half ≡ powerOfTwo (G .width - 1)) {q r : List ℕ}
-    (q-filled : Filled 0 mostEntries (G .rows * G .columns) (valueAt (from (recordBytes * quotients G .start) t)) q)
-    (r-filled : Filled 0 mostEntries (G .rows * G .columns) (valueAt (from (recordBytes * remainders G .start) t)) r) where
+-- room for a entries of A, b of B and c claims
+pub record Room (G : Setting) (a b c : ℕ) : Type 0 where
+  pub rows : G .rows * G .inner ≤ a
+  pub columns : G .inner * G .columns ≤ b
+  pub claims : G .rows * G .columns ≤ c
+  pub few-rows : a ≤ mostEntries
+  pub few-columns : b ≤ mostEntries
+  pub few-claims : c ≤ mostClaims
+
+module _ {G : Setting} {t : List ℕ} (passed : Passed G t) {half : ℕ} (half-is : half ≡ powerOfTwo (G .width - 1)) where
+  abbrev q : List ℕ
+  q = from (recordBytes * quotients G .start) t
+
+  abbrev r : List ℕ
+  r = from (recordBytes * remainders G .start) t
+
   -- claim c's value in a part of the claims
-  value-at : (P : Part) → P .columns ≡ G .columns → {list : List ℕ}
-      → Filled 0 mostEntries (G .rows * G .columns) (valueAt (from (recordBytes * P .start) t)) list
-      → (c : ℕ) → c < G .rows * G .columns → getD (take (G .rows * G .columns) list) c 0 ≡ valueIn t P (rowOf G c) (columnOf G c)
+  value-at : (P : Part) → P .columns ≡ G .columns → (c : ℕ)
+      → valueAt (from (recordBytes * P .start) t) c ≡ valueIn t P (rowOf G c) (columnOf G c)
   unfolding bytesOf
-  value-at P same {list} filled c l =
-      getD-take (G .rows * G .columns) list c 0 l ∙ filled .each c l
-      ∙ rw (rest (recordBytes * P .start) t) (value-of-part t P c ∙ sym (claim-value G t P c same))
+  value-at P same c = rw (rest (recordBytes * P .start) t) (value-of-part t P c ∙ sym (claim-value G t P c same))
 
-  quotient-at : (c : ℕ) → c < G .rows * G .columns
-      → getD (take (G .rows * G .columns) q) c 0 ≡ valueIn t (quotients G) (rowOf G c) (columnOf G c)
+  quotient-at : (c : ℕ) → valueAt q c ≡ valueIn t (quotients G) (rowOf G c) (columnOf G c)
   unfolding quotients
-  quotient-at = value-at (quotients G) refl q-filled
+  quotient-at = value-at (quotients G) refl
 
-  remainder-at : (c : ℕ) → c < G .rows * G .columns
-      → getD (take (G .rows * G .columns) r) c 0 ≡ valueIn t (remainders G) (rowOf G c) (columnOf G c)
+  remainder-at : (c : ℕ) → valueAt r c ≡ valueIn t (remainders G) (rowOf G c) (columnOf G c)
   unfolding remainders
-  remainder-at = value-at (remainders G) refl r-filled
+  remainder-at = value-at (remainders G) refl
 
-  claim-at : (c : ℕ) → c < G .rows * G .columns
-      → claimOf (take (G .rows * G .columns) q) (take (G .rows * G .columns) r) half (G .scale) c ≡ claimedAt G t c
+  pub claim-at : (c : ℕ) → claimOf q r half (G .scale) c ≡ claimedAt G t c
   unfolding claimedAt shiftedQuotient
-  claim-at c l = rw (quotient-at c l, remainder-at c l, half-of {G = G} (passed .numbers) half-is .power)
-
-  q-long : length (take (G .rows * G .columns) q) ≡ G .rows * G .columns
-  q-long = length-take-le (G .rows * G .columns) q (omega (arith, q-filled .long, passed .counts))
+  claim-at c = rw (quotient-at c, remainder-at c, half-of {G = G} (passed .numbers) half-is .power)
 
   -- a claim that passes is below 2^v times the scale, and so is its quotient's part
   claim-below : (c : ℕ) → c < G .rows * G .columns
@@ -171,28 +175,19 @@ module _ {G : Setting} {t : List ℕ} (passed : Passed G t) {half : ℕ} (half-i
       let shifted : s < 2 ^ G .width = ltb-true _ _ (valid-quotient passed _ _ i j .in-range) in
       omega (arith, mul-le-mul-right (G .scale) shifted, small-remainder passed _ _ i j, passed .fitted .claims, modulus-is)
 
-  pub claims-small : ClaimsSmall (take (G .rows * G .columns) q) (take (G .rows * G .columns) r) half (G .scale)
-  unfolding shiftedQuotient
-  claims-small =
+  pub claims-small : {a b room : ℕ} → Room G a b room → ClaimsSmall q r (G .rows * G .columns) half (G .scale) room
+  unfolding shiftedQuotient quotients remainders
+  claims-small room =
       record {
-        few = omega (arith, q-long, passed .counts);
-        long = length-take-le (G .rows * G .columns) r (omega (arith, r-filled .long, passed .counts)) ∙ sym q-long;
+        few = room .claims;
+        small = room .few-claims;
+        long-q = omega (arith, from-long (recordBytes * quotients G .start) t, passed .long, length-by-parts G);
+        long-r = omega (arith, from-long (recordBytes * remainders G .start) t, passed .long, length-by-parts G);
         half-below = omega (arith, half-of {G = G} (passed .numbers) half-is .small, modulus-is);
-        below = λ c l.
-            let l : c < G .rows * G .columns = omega (arith, q-long) in
-            rw (quotient-at c l) (valid-quotient passed _ _ (row-within passed l) (column-within passed l) .below);
-        product = λ c l.
-            let l : c < G .rows * G .columns = omega (arith, q-long) in
-            rw (quotient-at c l, half-of {G = G} (passed .numbers) half-is .power) (claim-below c l .0);
-        sum = λ c l.
-            let l : c < G .rows * G .columns = omega (arith, q-long) in
-            rw (claim-at c l) (claim-below c l .1);
+        below = λ c l. rw (quotient-at c) (valid-quotient passed _ _ (row-within passed l) (column-within passed l) .below);
+        product = λ c l. rw (quotient-at c, half-of {G = G} (passed .numbers) half-is .power) (claim-below c l .0);
+        sum = λ c l. rw (claim-at c) (claim-below c l .1);
       }
-
-  pub claims-filled : {list : List ℕ}
-      → Filled 0 mostClaims (length (take (G .rows * G .columns) q)) (claimOf (take (G .rows * G .columns) q) (take (G .rows * G .columns) r) half (G .scale)) list
-      → Filled 0 mostClaims (G .rows * G .columns) (claimedAt G t) list
-  claims-filled filled = record { long = filled .long; each = λ c l. filled .each c (omega (arith, q-long)) ∙ claim-at c l }
 
 -- the comparison
 
@@ -258,10 +253,21 @@ module _ (A B : List ℤ) (Y : List ℕ) (inner width lift : ℕ) where
     pub before : (k : ℕ) → k < c → agrees A B Y inner width lift k ≡ true
     pub answer-is : answer ≡ record { number = 0; place = 0; row = 0; products = inner * c }
 
+  pub record RowCompared (c : ℕ) (answer : Answer) : Type 0 where
+    pub passed : answer .number ≡ 0 → ComparedTo c answer
+    pub stopped : (answer .number ≡ 0 → ⊥) → answer ≡ compareAnswer A B Y inner width lift
+
   pub compared-products : CompareReady A B Y inner width → {c : ℕ} {answer : Answer} → c < length Y → ComparedTo c answer
       → answer .products + inner < 2 ^ 31
   compared-products ready {c} l so-far =
       omega (arith, ap (λ a. a .products) (so-far .answer-is), mul-le-mul (ready .narrow) (le-of-lt l), ready .few, ready .narrow)
+
+  pub compared-at : {c k : ℕ} {answer : Answer} → k ≡ c → ComparedTo c answer → ComparedTo k answer
+  compared-at e so-far =
+      record {
+        before = λ i l. so-far .before i (omega arith);
+        answer-is = so-far .answer-is ∙ ap (λ n. record { number = 0; place = 0; row = 0; products = inner * n }) (sym e);
+      }
 
   pub compared-none : ComparedTo 0 (refusal 0 0)
   compared-none =
@@ -321,159 +327,124 @@ module _ (A B : List ℤ) (Y : List ℕ) (inner width lift : ℕ) where
 
 -- a ticket that passes
 
-module _ {G : Setting} {t : List ℕ} (passed : Passed G t) where
-  pub long-A : Long t (G .rows * G .inner)
-  long-A = record { few = omega (arith, passed .counts); long = omega (arith, passed .long, length-by-parts G) }
-
-  -- the records of a part from byte 8 · start on
-  long-from : (start count : ℕ) → count ≤ mostEntries → recordBytes * (start + count) ≤ length t → Long (from (recordBytes * start) t) count
-  long-from start count few l = record { few = few; long = omega (arith, from-long (recordBytes * start) t) }
-
-  pub long-B : Long (from (recordBytes * (G .rows * G .inner)) t) (G .inner * G .columns)
-  long-B =
-      long-from (G .rows * G .inner) (G .inner * G .columns) (omega (arith, passed .counts)) (omega (arith, passed .long, length-by-parts G))
-
-  pub long-quotients : Long (from (recordBytes * quotients G .start) t) (G .rows * G .columns)
-  unfolding quotients
-  long-quotients =
-      long-from (G .rows * G .inner + G .inner * G .columns) (G .rows * G .columns) (omega (arith, passed .counts))
-      (omega (arith, passed .long, length-by-parts G))
-
-  pub long-remainders : Long (from (recordBytes * remainders G .start) t) (G .rows * G .columns)
-  unfolding remainders
-  long-remainders =
-      long-from (G .rows * G .inner + G .inner * G .columns + G .rows * G .columns) (G .rows * G .columns) (omega (arith, passed .counts))
-      (omega (arith, passed .long, length-by-parts G))
-
+module _ {G : Setting} {t : List ℕ} (passed : Passed G t) {x y z : ℕ} (room : Room G x y z) where
   -- record k of a part by its row and column
   by-row : (P : Part) (k : ℕ) → valueAt (bytesOf t P) k ≡ valueIn t P (k / P .columns) (k % P .columns)
   unfolding valueIn
   by-row P k = ap (valueAt (bytesOf t P)) (sym (div-add-mod' k (P .columns)))
 
   -- the entries of a part are 16-bit numbers
-  narrow-part : (P : Part) (n : ℕ) {list : List ℕ} → 0 < P .columns → n ≡ P .rows * P .columns → n ≤ mostEntries
-      → Filled 0 mostEntries n (valueAt (bytesOf t P)) list
+  narrow-part : (P : Part) {n : ℕ} → n ≤ mostEntries → P .rows * P .columns ≤ n → 0 < P .columns
+      → recordBytes * (P .rows * P .columns) ≤ length (bytesOf t P)
       → ((i j : ℕ) → i < P .rows → j < P .columns → valueIn t P i j < modulus)
       → ((i j : ℕ) → i < P .rows → j < P .columns → natAbs (signedEntry modulus (valueIn t P i j)) ≤ G .bound)
-      → Narrow (take n list)
-  narrow-part P n {list} above e few filled below small =
-      let long : length (take n list) ≡ n = length-take-le n list (omega (arith, filled .long)) in
+      → NarrowRecords (bytesOf t P) (P .rows * P .columns) n
+  narrow-part P {n} small few above long below bounded =
       record {
-        few = omega (arith, long);
+        few = few;
+        small = small;
+        long = long;
         each = λ k l.
-            let l : k < n = omega (arith, long) in
-            let row : k / P .columns < P .rows = div-lt-iff-lt-mul above .1 (omega (arith, e)) in
-            let is : getD (take n list) k 0 ≡ valueIn t P (k / P .columns) (k % P .columns) =
-            getD-take n list k 0 l ∙ filled .each k l ∙ by-row P k in
-            let bounded : natAbs (signedEntry modulus (getD (take n list) k 0)) ≤ G .bound = rw is (small _ _ row (mod-lt k above)) in
+            let row : k / P .columns < P .rows = div-lt-iff-lt-mul above .1 l in
+            let is = by-row P k in
+            let bound : natAbs (signedEntry modulus (valueAt (bytesOf t P) k)) ≤ G .bound = rw is (bounded _ _ row (mod-lt k above)) in
             record { below = rw is (below _ _ row (mod-lt k above)); small = omega (arith, passed .numbers .bound) };
       }
 
-  module _ {a : List ℕ} (a-filled : Filled 0 mostEntries (G .rows * G .inner) (valueAt t) a) where
-    pub narrow-A : Narrow (take (G .rows * G .inner) a)
-    unfolding partA bytesOf entryA
-    narrow-A =
-        narrow-part (partA G) (G .rows * G .inner) (omega (arith, passed .counts .sizes .inner)) refl (omega (arith, passed .counts))
-        a-filled (λ i j l m. valid-A passed i j l m .below) (size-entryA passed)
+  pub narrow-A : NarrowRecords t (G .rows * G .inner) x
+  unfolding partA bytesOf entryA
+  narrow-A =
+      narrow-part (partA G) (room .few-rows) (room .rows) (omega (arith, passed .counts .sizes .inner))
+      (omega (arith, passed .long, length-by-parts G)) (λ i j l m. valid-A passed i j l m .below) (size-entryA passed)
 
-  module _ {b : List ℕ}
-      (b-filled : Filled 0 mostEntries (G .inner * G .columns) (valueAt (from (recordBytes * (G .rows * G .inner)) t)) b) where
-    pub narrow-B : Narrow (take (G .inner * G .columns) b)
-    unfolding partB bytesOf entryB
-    narrow-B =
-        narrow-part (partB G) (G .inner * G .columns) (omega (arith, passed .counts .sizes .columns)) refl (omega (arith, passed .counts))
-        (rw (rest (recordBytes * (G .rows * G .inner)) t) at b-filled) (λ i j l m. valid-B passed i j l m .below) (size-entryB passed)
+  pub narrow-B : NarrowRecords (from (recordBytes * (G .rows * G .inner)) t) (G .inner * G .columns) y
+  unfolding partB bytesOf entryB
+  narrow-B =
+      rw (rest (recordBytes * (G .rows * G .inner)) t)
+      (narrow-part (partB G) (room .few-columns) (room .columns) (omega (arith, passed .counts .sizes .columns))
+      (omega (arith, length-drop (recordBytes * (G .rows * G .inner)) t, passed .long, length-by-parts G))
+      (λ i j l m. valid-B passed i j l m .below) (size-entryB passed))
 
-    pub long-values-B : length (take (G .inner * G .columns) b) ≡ G .inner * G .columns
-    long-values-B = length-take-le (G .inner * G .columns) b (omega (arith, b-filled .long, passed .counts))
+  module _ {half : ℕ} (half-is : half ≡ powerOfTwo (G .width - 1)) {A B : List ℤ} {Y : List ℕ}
+      (rows : Filled (pos 0) x (G .rows * G .inner) (entryAt t) A)
+      (columns : Columns (pos 0) y (G .inner) (G .columns) (entryAt (from (recordBytes * (G .rows * G .inner)) t)) B)
+      (claims : Filled 0 z (G .rows * G .columns)
+      (claimOf (from (recordBytes * quotients G .start) t) (from (recordBytes * remainders G .start) t) half (G .scale)) Y) where
+    pub long-claims : length (take (G .rows * G .columns) Y) ≡ G .rows * G .columns
+    long-claims = length-take-le (G .rows * G .columns) Y (omega (arith, claims .long, room .claims))
 
-    module _ {a : List ℕ} (a-filled : Filled 0 mostEntries (G .rows * G .inner) (valueAt t) a) {A B : List ℤ} {Y : List ℕ}
-        (rows : Filled (pos 0) mostEntries (length (take (G .rows * G .inner) a)) (entryIn (take (G .rows * G .inner) a)) A)
-        (columns : Columns (pos 0) mostEntries (G .inner) (G .columns) (entryIn (take (G .inner * G .columns) b)) B)
-        (claims : Filled 0 mostClaims (G .rows * G .columns) (claimedAt G t) Y) where
-      long-claims : length (take (G .rows * G .columns) Y) ≡ G .rows * G .columns
-      long-claims = length-take-le (G .rows * G .columns) Y (omega (arith, claims .long, passed .counts))
+    pub compare-ready : CompareReady A B (take (G .rows * G .columns) Y) (G .inner) (G .columns)
+    compare-ready =
+        record {
+          height = G .rows;
+          columns = omega (arith, passed .counts .sizes .columns);
+          count = long-claims;
+          few = omega (arith, long-claims, passed .counts);
+          narrow = omega (arith, passed .counts .sizes .inner);
+          rows-long = omega (arith, rows .long, room .rows);
+          columns-long = omega (arith, columns .long, room .columns);
+          rows-few = omega (arith, rows .long, room .few-rows);
+          columns-few = omega (arith, columns .long, room .few-columns);
+        }
 
-      pub compare-ready : CompareReady A B (take (G .rows * G .columns) Y) (G .inner) (G .columns)
-      compare-ready =
-          record {
-            height = G .rows;
-            columns = omega (arith, passed .counts .sizes .columns);
-            count = long-claims;
-            few = omega (arith, long-claims, passed .counts);
-            narrow = omega (arith, passed .counts .sizes .inner);
-            rows-long = omega (arith, rows .long, passed .counts);
-            columns-long = omega (arith, columns .long, passed .counts);
-            rows-few = omega (arith, rows .long);
-            columns-few = omega (arith, columns .long);
-          }
+    module _ {lifting c : ℕ} (lifting-is : lifting ≡ half * G .scale) (within : c < G .rows * G .columns) where
+      l : rowOf G c < G .rows
+      l = row-within passed within
 
-      module _ {half lifting c : ℕ} (half-is : half ≡ powerOfTwo (G .width - 1)) (lifting-is : lifting ≡ half * G .scale)
-          (within : c < G .rows * G .columns) where
-        l : rowOf G c < G .rows
-        l = row-within passed within
+      m : columnOf G c < G .columns
+      m = column-within passed within
 
-        m : columnOf G c < G .columns
-        m = column-within passed within
+      row-entry : (k : ℕ) → k < G .inner → getD (lineOf A (G .inner) (rowOf G c)) k (pos 0) ≡ entryA G t (rowOf G c) k
+      unfolding entryAt entryA partA bytesOf valueIn
+      row-entry k h =
+          part-of A (rowOf G c * G .inner) (G .inner) k (pos 0) h ∙ rows .each (rowOf G c * G .inner + k) (digits-lt l h)
 
-        row-entry : (k : ℕ) → k < G .inner → getD (lineOf A (G .inner) (rowOf G c)) k (pos 0) ≡ entryA G t (rowOf G c) k
-        unfolding entryIn entryA partA bytesOf valueIn
-        row-entry k h =
-            let inside : rowOf G c * G .inner + k < G .rows * G .inner = digits-lt l h in
-            let long : length (take (G .rows * G .inner) a) ≡ G .rows * G .inner =
-            length-take-le (G .rows * G .inner) a (omega (arith, a-filled .long, passed .counts)) in
-            part-of A (rowOf G c * G .inner) (G .inner) k (pos 0) h ∙ rows .each (rowOf G c * G .inner + k) (omega (arith, long))
-            ∙ ap (signedEntry modulus) (getD-take (G .rows * G .inner) a (rowOf G c * G .inner + k) 0 inside ∙ a-filled .each _ inside)
+      column-entry : (k : ℕ) → k < G .inner → getD (lineOf B (G .inner) (columnOf G c)) k (pos 0) ≡ entryB G t k (columnOf G c)
+      unfolding entryAt entryB partB bytesOf valueIn
+      column-entry k h =
+          part-of B (columnOf G c * G .inner) (G .inner) k (pos 0) h ∙ columns .each k (columnOf G c) h m
+          ∙ ap (λ b. signedEntry modulus (valueAt b (k * G .columns + columnOf G c))) (rest (recordBytes * (G .rows * G .inner)) t)
 
-        column-entry : (k : ℕ) → k < G .inner → getD (lineOf B (G .inner) (columnOf G c)) k (pos 0) ≡ entryB G t k (columnOf G c)
-        unfolding entryIn entryB partB bytesOf valueIn
-        column-entry k h =
-            let inside : k * G .columns + columnOf G c < G .inner * G .columns = digits-lt h m in
-            part-of B (columnOf G c * G .inner) (G .inner) k (pos 0) h ∙ columns .each k (columnOf G c) h m
-            ∙ ap (signedEntry modulus)
-            (getD-take (G .inner * G .columns) b (k * G .columns + columnOf G c) 0 inside ∙ b-filled .each _ inside
-            ∙ ap (λ x. valueAt x (k * G .columns + columnOf G c)) (rest (recordBytes * (G .rows * G .inner)) t))
+      sum-lifted : Lifted G (exactSum G t (rowOf G c) (columnOf G c)) (sumAt A B (G .inner) lifting (rowOf G c) (columnOf G c))
+      sum-lifted =
+          let exact : dotProduct (lineOf A (G .inner) (rowOf G c)) (lineOf B (G .inner) (columnOf G c))
+          ≡ leastResidue (2 ^ 32) (exactSum G t (rowOf G c) (columnOf G c)) =
+          dot-is (G .inner) (lineOf A (G .inner) (rowOf G c)) (lineOf B (G .inner) (columnOf G c)) (entryA G t (rowOf G c)) (λ k. entryB G t k (columnOf G c))
+          (part-long A (rowOf G c * G .inner) (G .inner) (omega (arith, row-inside (G .inner) l, rows .long, room .rows)))
+          (part-long B (columnOf G c * G .inner) (G .inner) (omega (arith, row-inside (G .inner) m, columns .long, room .columns)))
+          row-entry column-entry
+          ∙ ap (leastResidue (2 ^ 32)) (sym (exactSum-is G t (rowOf G c) (columnOf G c))) in
+          lifted-sum (passed .numbers) (passed .fitted) (exactSum G t (rowOf G c) (columnOf G c)) (size-exactSum passed _ _ l m)
+          (rw (exact, lifting-is, lift-by-half (passed .numbers) (passed .fitted) half-is))
 
-        sum-lifted : Lifted G (exactSum G t (rowOf G c) (columnOf G c)) (sumAt A B (G .inner) lifting (rowOf G c) (columnOf G c))
-        sum-lifted =
-            let exact : dotProduct (lineOf A (G .inner) (rowOf G c)) (lineOf B (G .inner) (columnOf G c))
-            ≡ leastResidue (2 ^ 32) (exactSum G t (rowOf G c) (columnOf G c)) =
-            dot-is (G .inner) (lineOf A (G .inner) (rowOf G c)) (lineOf B (G .inner) (columnOf G c)) (entryA G t (rowOf G c)) (λ k. entryB G t k (columnOf G c))
-            (part-long A (rowOf G c * G .inner) (G .inner) (omega (arith, row-inside (G .inner) l, rows .long, passed .counts)))
-            (part-long B (columnOf G c * G .inner) (G .inner) (omega (arith, row-inside (G .inner) m, columns .long, passed .counts)))
-            row-entry column-entry
-            ∙ ap (leastResidue (2 ^ 32)) (sym (exactSum-is G t (rowOf G c) (columnOf G c))) in
-            lifted-sum (passed .numbers) (passed .fitted) (exactSum G t (rowOf G c) (columnOf G c)) (size-exactSum passed _ _ l m)
-            (rw (exact, lifting-is, lift-by-half (passed .numbers) (passed .fitted) half-is))
+      claim-lifted : Lifted G (claim G t (rowOf G c) (columnOf G c)) (getD (take (G .rows * G .columns) Y) c 0)
+      claim-lifted =
+          rw (getD-take (G .rows * G .columns) Y c 0 within ∙ claims .each c within ∙ claim-at passed half-is c) (claimed-is passed within)
 
-        claim-lifted : Lifted G (claim G t (rowOf G c) (columnOf G c)) (getD (take (G .rows * G .columns) Y) c 0)
-        claim-lifted =
-            rw (getD-take (G .rows * G .columns) Y c 0 within ∙ claims .each c within) (claimed-is passed within)
+      agrees-holds : agrees A B (take (G .rows * G .columns) Y) (G .inner) (G .columns) lifting c ≡ holds G t c
+      unfolding agrees holds
+      agrees-holds =
+          let S = exactSum G t (rowOf G c) (columnOf G c) in
+          let C = claim G t (rowOf G c) (columnOf G c) in
+          let x = sumAt A B (G .inner) lifting (rowOf G c) (columnOf G c) in
+          let y = getD (take (G .rows * G .columns) Y) c 0 in
+          elim (ℕ-discrete x y) [
+            | yes e ↦
+                eq-eqb x y e ∙ sym (same-equal C S (lifted-same G C S (sym claim-lifted ∙ sym (ap pos e) ∙ sum-lifted)))
+            | no d ↦
+                ne-eqb x y d
+                ∙ sym (same-other C S (λ e. d (ap positive (sum-lifted ∙ sym (ap (λ z. z +ℤ pos (lift G)) e) ∙ sym claim-lifted))))
+          ]
 
-        agrees-holds : agrees A B (take (G .rows * G .columns) Y) (G .inner) (G .columns) lifting c ≡ holds G t c
-        unfolding agrees holds
-        agrees-holds =
-            let S = exactSum G t (rowOf G c) (columnOf G c) in
-            let C = claim G t (rowOf G c) (columnOf G c) in
-            let x = sumAt A B (G .inner) lifting (rowOf G c) (columnOf G c) in
-            let y = getD (take (G .rows * G .columns) Y) c 0 in
-            elim (ℕ-discrete x y) [
-              | yes e ↦
-                  eq-eqb x y e ∙ sym (same-equal C S (lifted-same G C S (sym claim-lifted ∙ sym (ap pos e) ∙ sum-lifted)))
-              | no d ↦
-                  ne-eqb x y d
-                  ∙ sym (same-other C S (λ e. d (ap positive (sum-lifted ∙ sym (ap (λ z. z +ℤ pos (lift G)) e) ∙ sym claim-lifted))))
-            ]
-
-      pub compare-verdict : {half lifting : ℕ} → half ≡ powerOfTwo (G .width - 1) → lifting ≡ half * G .scale
-          → compareAnswer A B (take (G .rows * G .columns) Y) (G .inner) (G .columns) lifting ≡ fullVerdict G t
-      unfolding compareAnswer fullVerdict
-      compare-verdict {half} {lifting} half-is lifting-is =
-          let Y' = take (G .rows * G .columns) Y in
-          let agree : ℕ → Bool = agrees A B Y' (G .inner) (G .columns) lifting in
-          rw (long-claims, first-cong (G .rows * G .columns) agree (holds G t) (λ c within. agrees-holds half-is lifting-is within))
-          (ap (λ n. unless (eqb (first (G .rows * G .columns) (holds G t)) (G .rows * G .columns))
-          (untrue G (first (G .rows * G .columns) (holds G t))) (record { number = 0; place = 0; row = 0; products = n })) (omega arith))
+    pub compare-verdict : {lifting : ℕ} → lifting ≡ half * G .scale
+        → compareAnswer A B (take (G .rows * G .columns) Y) (G .inner) (G .columns) lifting ≡ fullVerdict G t
+    unfolding compareAnswer fullVerdict
+    compare-verdict {lifting} lifting-is =
+        let Y' = take (G .rows * G .columns) Y in
+        let agree : ℕ → Bool = agrees A B Y' (G .inner) (G .columns) lifting in
+        rw (long-claims, first-cong (G .rows * G .columns) agree (holds G t) (λ c within. agrees-holds lifting-is within))
+        (ap (λ n. unless (eqb (first (G .rows * G .columns) (holds G t)) (G .rows * G .columns))
+        (untrue G (first (G .rows * G .columns) (holds G t))) (record { number = 0; place = 0; row = 0; products = n })) (omega arith))
 
 -- the whole check
 

@@ -1,11 +1,9 @@
--- The operands, as the code takes them from the values of a part.
+-- The operands, as the code takes them from the records of a part.
 --
 --   mostEntries    the most entries of an operand
---   Long b n       b has n records, and not too many
 --   NarrowAt v     the value v stands for a number of at most 15 bits
---   Narrow x       all values of x do, and there are not too many
---   narrow-at      each of them does
---   entryIn x k    the entry that value k of x stands for
+--   NarrowRecords b n r   b has n records whose values all do, and a list of r entries has room for them
+--   entryAt b k    the entry that the value of record k of b stands for
 --   entry-stored   that entry, as it is stored
 --   entry-small, entry-large   that entry, by the size of the value
 use Prim.Native.Nat.{ℕ, suc, _+_, _-_, _*_, _/_, _≤_, _<_, _^_}
@@ -14,7 +12,7 @@ use native.Mathlib.Omega.{arith}
 use mathlib.Core.Path.{_≡_, sym, subst, _∙_}
 use mathlib.Core.List.{List}
 use lib.IntN.{ℤ, pos, negsuc, natAbs, _-ℤ_}
-use lib.ListN.{length, getD}
+use lib.ListN.{length}
 use mir.Syntax.{w16}
 use mir.Val.{toZ, ofZ}
 use mir.Facts.{toZ-ofZ}
@@ -22,25 +20,23 @@ use Rattle.residue.specs.Rules.{modulus, signedEntry}
 use Rattle.residue.specs.Laws.Modulus.{modulus-is, modulus-positive}
 use Rattle.residue.specs.Laws.Residues.{less-modulus, entry-low, entry-high}
 use Rattle.residue.specs.Laws.Signed.{small-fits}
-use Rattle.ticket.specs.Rules.{recordBytes}
+use Rattle.ticket.specs.Rules.{recordBytes, valueAt}
 
 abbrev pub mostEntries : ℕ
 mostEntries = 2048
-
-pub record Long (bytes : List ℕ) (count : ℕ) : Type 0 where
-  pub few : count ≤ mostEntries
-  pub long : recordBytes * count ≤ length bytes
 
 pub record NarrowAt (value : ℕ) : Type 0 where
   pub below : value < modulus
   pub small : natAbs (signedEntry modulus value) < 2 ^ 15
 
-pub record Narrow (values : List ℕ) : Type 0 where
-  pub few : length values ≤ mostEntries
-  pub each : (k : ℕ) → k < length values → NarrowAt (getD values k 0)
+pub record NarrowRecords (bytes : List ℕ) (count room : ℕ) : Type 0 where
+  pub few : count ≤ room
+  pub small : room ≤ mostEntries
+  pub long : recordBytes * count ≤ length bytes
+  pub each : (k : ℕ) → k < count → NarrowAt (valueAt bytes k)
 
-unfoldable pub entryIn : List ℕ → ℕ → ℤ
-entryIn values k = signedEntry modulus (getD values k 0)
+unfoldable pub entryAt : List ℕ → ℕ → ℤ
+entryAt bytes k = signedEntry modulus (valueAt bytes k)
 
 module _ {value : ℕ} (narrow : NarrowAt value) where
   pub entry-stored : {entry : ℤ} → entry ≡ signedEntry modulus value → toZ w16 (ofZ w16 entry) ≡ signedEntry modulus value

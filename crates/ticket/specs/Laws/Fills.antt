@@ -8,7 +8,7 @@
 --   lineOf x n i         line i of lines of n elements each
 --   digits-same          two numbers by row and column are equal only where these are
 --   place-inside         where an element stands, column by column
---   columns-none, columns-more, columns-ended   no element is there yet, one more, and the last
+--   columns-none, columns-fewer, columns-more, columns-ended   no element is there yet, fewer are, one more, and the last
 use Prim.Native.Nat.{ℕ, _+_, _-_, _*_, _/_, _%_, _≤_, _<_}
 use native.Mathlib.Decide.{ℕ-discrete}
 use native.Mathlib.Omega.{arith}
@@ -71,6 +71,9 @@ module _ {A : Type 0} (d : A) (size : ℕ) (f : ℕ → A) where
   module _ (height width : ℕ) where
     pub columns-none : {list : List A} → length list ≡ size → ColumnsTo d size height width 0 f list
     columns-none e = record { long = e; each = λ k j l m h. absurd (omega arith) }
+
+    pub columns-fewer : {i k : ℕ} {list : List A} → ColumnsTo d size height width i f list → k ≤ i → ColumnsTo d size height width k f list
+    columns-fewer columns le = record { long = columns .long; each = λ k j l m h. columns .each k j l m (omega arith) }
 
     pub columns-more : {i row column : ℕ} {value : A} {list : List A} → height * width ≤ size → i < height * width
         → Position width i row column → ColumnsTo d size height width i f list → value ≡ f i

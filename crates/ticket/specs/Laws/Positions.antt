@@ -2,6 +2,7 @@
 --
 --   Position n i r c   element i of a matrix of n columns is in row r, column c
 --   position-none      the first element
+--   position-of        the element in a row and a column
 --   position-next, position-row   the element after one: in the same row, or at the beginning of the next
 --   position-within    an element of the matrix is in one of its rows
 --   row-of, column-of  row and column by division
@@ -20,6 +21,11 @@ pub record Position (columns i row column : ℕ) : Type 0 where
 
 pub position-none : {columns : ℕ} → 1 ≤ columns → Position columns 0 0 0
 position-none h = record { place = omega arith; inside = omega arith; row-small = omega arith }
+
+pub position-of : {columns column : ℕ} (row : ℕ) → column < columns → Position columns (row * columns + column) row column
+position-of {columns} row l =
+    let least : 1 ≤ columns = omega arith in
+    record { place = omega arith; inside = l; row-small = omega (arith, mul-le-mul-right row least) }
 
 module _ {columns i row column : ℕ} (at : Position columns i row column) where
   pub row-of : i / columns ≡ row

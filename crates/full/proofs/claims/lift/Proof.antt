@@ -3,54 +3,51 @@ use native.Mathlib.Omega.{arith}
 use mathlib.Core.Path.{refl}
 use lib.ListN.{length}
 use Rattle.ticket.specs.Laws.Fills.{Filled, filled-none, filled-more}
-use Rattle.full.specs.Laws.Claims.{mostClaims, claimOf}
+use Rattle.full.specs.Laws.Claims.{claimOf}
 use Rattle.full.proofs.claims.lift.Statement.{statement}
 use Rattle.full.proofs.claims.lift.Tie as tie
 
 abbrev Inv-loop : tie.InvT-loop
-Inv-loop quotients remainders half scale list₀ c₀ list c = (c ≤ length quotients) × Filled 0 mostClaims c (claimOf quotients remainders half scale) list
+Inv-loop quotients remainders count half scale list₀ c₀ list c = (c ≤ count) × Filled 0 (length list₀) c (claimOf quotients remainders half scale) list
 
 abbrev μ-loop : tie.MeasureT-loop
-μ-loop quotients remainders half scale list₀ c₀ list c = length quotients - c
+μ-loop quotients remainders count half scale list₀ c₀ list c = count - c
 
 loop-holds : tie.Need-loop-holds Inv-loop μ-loop
 loop-holds c = (omega arith, filled-none _ _ _ refl)
 
-mul-shifted : tie.Need-mul-shifted Inv-loop μ-loop
-mul-shifted c = omega arith
-
-shared-slice-read-shifted : tie.Need-shared-slice-read-shifted Inv-loop μ-loop
-shared-slice-read-shifted c = omega arith
+value-requires : tie.Need-value-requires Inv-loop μ-loop
+value-requires c κs = omega (arith, c .before .before .before .before .before .pre .long-q)
 
 shifted-requires : tie.Need-shifted-requires Inv-loop μ-loop
-shifted-requires c κs = (c .before .before .before .before .before .pre .below _ (c .before .loop-test .taken), c .before .before .before .before .before .pre .half-below)
+shifted-requires c κs = (rw (c .value .ensures) (c .before .before .before .before .before .before .pre .below _ (c .before .loop-test .taken)), c .before .before .before .before .before .before .pre .half-below)
 
 mul-list : tie.Need-mul-list Inv-loop μ-loop
-mul-list c = rw (c .shifted .ensures) (omega (arith, c .before .before .before .before .before .before .pre .product _ (c .before .before .loop-test .taken)))
+mul-list c = rw (c .shifted .ensures, c .before .value .ensures) (omega (arith, c .before .before .before .before .before .before .before .pre .product _ (c .before .before .loop-test .taken)))
 
-mul-list-2 : tie.Need-mul-list-2 Inv-loop μ-loop
-mul-list-2 c = omega arith
-
-shared-slice-read-list : tie.Need-shared-slice-read-list Inv-loop μ-loop
-shared-slice-read-list c = omega (arith, c .before .before .before .before .before .before .before .pre .long)
+value-requires-2 : tie.Need-value-requires-2 Inv-loop μ-loop
+value-requires-2 c κs = omega (arith, c .before .before .before .before .before .before .before .pre .long-r)
 
 add-list : tie.Need-add-list Inv-loop μ-loop
-add-list c = rw (c .before .shifted .ensures) (omega (arith, c .before .before .before .before .before .before .before .pre .sum _ (c .before .before .before .loop-test .taken)))
+add-list c = rw (c .before .shifted .ensures, c .before .before .value .ensures, c .value2 .ensures) (omega (arith, c .before .before .before .before .before .before .before .before .pre .sum _ (c .before .before .before .loop-test .taken)))
 
-mul-list-3 : tie.Need-mul-list-3 Inv-loop μ-loop
-mul-list-3 c = omega arith
+mul-list-2 : tie.Need-mul-list-2 Inv-loop μ-loop
+mul-list-2 c = omega (arith, c .before .before .before .before .before .before .before .before .pre .few, c .before .before .before .before .before .before .before .before .pre .small)
 
-array-write-list : tie.Need-array-write-list Inv-loop μ-loop
-array-write-list c = omega (arith, c .before .before .before .before .before .before .before .pre .few, c .before .before .before .before .loop .inv .1 .long)
+slice-write-list : tie.Need-slice-write-list Inv-loop μ-loop
+slice-write-list c = omega (arith, c .before .before .before .before .before .before .before .before .pre .few, c .before .before .before .before .loop .inv .1 .long)
 
 add-c : tie.Need-add-c Inv-loop μ-loop
-add-c c = omega arith
+add-c c = omega (arith, c .before .before .before .before .before .before .before .before .pre .few, c .before .before .before .before .before .before .before .before .pre .small)
 
 loop-less : tie.Need-loop-less Inv-loop μ-loop
 loop-less c = omega arith
 
 loop-again : tie.Need-loop-again Inv-loop μ-loop
-loop-again c = (omega arith, filled-more _ _ _ (omega (arith, c .before .before .before .before .before .before .before .pre .few)) (c .before .before .before .before .loop .inv .1) (rw (c .before .shifted .ensures) refl))
+loop-again c = (omega arith, filled-more _ _ _ (omega (arith, c .before .before .before .before .before .before .before .before .pre .few)) (c .before .before .before .before .loop .inv .1) (rw (c .before .shifted .ensures, c .before .before .value .ensures, c .value2 .ensures) refl))
+
+same-length : tie.Need-same-length Inv-loop μ-loop
+same-length c = c .before .loop .inv .1 .long
 
 returns : tie.Need-returns Inv-loop μ-loop
 returns c = let filled = c .before .loop .inv .1 in record { long = filled .long; each = λ k l. filled .each k (omega arith) }
@@ -62,16 +59,15 @@ lift-spec =
     Inv-loop
     μ-loop
     loop-holds
-    mul-shifted
-    shared-slice-read-shifted
+    value-requires
     shifted-requires
     mul-list
-    mul-list-2
-    shared-slice-read-list
+    value-requires-2
     add-list
-    mul-list-3
-    array-write-list
+    mul-list-2
+    slice-write-list
     add-c
     loop-less
     loop-again
+    same-length
     returns)

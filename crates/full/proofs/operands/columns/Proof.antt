@@ -1,81 +1,40 @@
-use Prim.Native.Nat.{_+_, _-_, _*_, _≤_, _<_}
+use Prim.Native.Nat.{_+_, _-_, _*_, _≤_}
 use native.Mathlib.Omega.{arith}
-use mathlib.Core.Path.{_≡_, refl}
-use lib.IntN.{ℤ, pos}
-use lib.ListN.{length, getD, set}
-use Rattle.residue.specs.Rules.{modulus, signedEntry}
-use Rattle.ticket.specs.Laws.Positions.{Position, position-none, position-next, position-row}
-use Rattle.ticket.specs.Laws.Fills.{ColumnsTo, place-inside, columns-none, columns-more, columns-ended}
-use Rattle.full.specs.Laws.Operands.{mostEntries, entryIn, entry-stored}
+use native.Mathlib.Nat.{mul-le-mul-right}
+use mathlib.Core.Path.{refl}
+use lib.IntN.{pos}
+use lib.ListN.{length}
+use Rattle.ticket.specs.Laws.Fills.{ColumnsTo, columns-none, columns-fewer, columns-ended}
+use Rattle.full.specs.Laws.Operands.{entryAt}
 use Rattle.full.proofs.operands.columns.Statement.{statement}
 use Rattle.full.proofs.operands.columns.Tie as tie
 
 abbrev Inv-loop : tie.InvT-loop
-Inv-loop values height width list₀ k₀ row₀ column₀ list k row column = (k ≤ length values) × Position width k row column × ColumnsTo (pos 0) mostEntries height width k (entryIn values) list
+Inv-loop records height width list₀ row₀ list row = (row ≤ height) × ColumnsTo (pos 0) (length list₀) height width (row * width) (entryAt records) list
 
 abbrev μ-loop : tie.MeasureT-loop
-μ-loop values height width list₀ k₀ row₀ column₀ list k row column = length values - k
-
-within : (c : tie.In-loop Inv-loop μ-loop) → c .before .loop .k < c .before .before .before .args .height * c .before .before .before .args .width
-within c = omega (arith, c .loop-test .taken, c .before .before .before .pre .1)
-
-inside : (c : tie.In-loop Inv-loop μ-loop)
-    → c .before .loop .column * c .before .before .before .args .height + c .before .loop .row < c .before .before .before .args .height * c .before .before .before .args .width
-inside c = place-inside (c .before .before .before .args .height) (within c) (c .before .loop .inv .1)
-
-more : (c : tie.In-loop Inv-loop μ-loop) {value : ℤ} → value ≡ signedEntry modulus (getD (c .before .before .before .args .values .now) (c .before .loop .k) 0)
-    → ColumnsTo (pos 0) mostEntries (c .before .before .before .args .height) (c .before .before .before .args .width) (c .before .loop .k + 1) (entryIn (c .before .before .before .args .values .now))
-    (set (c .before .loop .list) (c .before .loop .column * c .before .before .before .args .height + c .before .loop .row) value)
-unfolding entryIn
-more c e = columns-more _ _ _ _ _ (omega (arith, c .before .before .before .pre .1, c .before .before .before .pre .2 .few)) (within c) (c .before .loop .inv .1) (c .before .loop .inv .2) e
+μ-loop records height width list₀ row₀ list row = height - row
 
 loop-holds : tie.Need-loop-holds Inv-loop μ-loop
-loop-holds c = (omega arith, position-none (c .before .pre .0), columns-none _ _ _ _ _ refl)
+loop-holds c = (omega arith, columns-fewer _ _ _ _ _ (columns-none _ _ _ _ _ refl) (omega arith))
 
-mul-at : tie.Need-mul-at Inv-loop μ-loop
-mul-at c = omega (arith, inside c, c .before .before .before .pre)
-
-add-at : tie.Need-add-at Inv-loop μ-loop
-add-at c = omega (arith, inside c, c .before .before .before .pre)
-
-mul-entry : tie.Need-mul-entry Inv-loop μ-loop
-mul-entry c = omega arith
-
-shared-slice-read-entry : tie.Need-shared-slice-read-entry Inv-loop μ-loop
-shared-slice-read-entry c = omega arith
-
-entry-requires : tie.Need-entry-requires Inv-loop μ-loop
-entry-requires c κs = c .before .before .before .before .pre .2 .each _ (c .before .loop-test .taken)
-
-mul-list : tie.Need-mul-list Inv-loop μ-loop
-mul-list c = omega (arith, inside (c .before .before), c .before .before .before .before .before .pre)
-
-array-set-from-list : tie.Need-array-set-from-list Inv-loop μ-loop
-array-set-from-list c = omega (arith, inside (c .before .before), c .before .before .before .before .before .pre .1, c .before .before .before .before .before .pre .2 .few, c .before .before .before .loop .inv .2 .long)
-
-add-k : tie.Need-add-k Inv-loop μ-loop
-add-k c = omega (arith, c .before .before .before .before .before .pre .2 .few)
-
-add-column : tie.Need-add-column Inv-loop μ-loop
-add-column c = omega (arith, c .before .before .before .loop .inv .1, c .before .before .before .before .before .fits)
+spread-requires : tie.Need-spread-requires Inv-loop μ-loop
+spread-requires c κs = (c .before .loop-test .taken, rw (c .before .before .loop .inv .1 .long) (c .before .before .before .before .pre), rw (c .before .before .loop .inv .1 .long) (c .before .before .loop .inv .1))
 
 add-row : tie.Need-add-row Inv-loop μ-loop
-add-row c = omega (arith, c .before .before .before .before .loop .inv .1, c .before .before .before .before .before .before .pre .2 .few)
+add-row c = omega (arith, c .before .before .before .before .before .before .fits)
 
 loop-less : tie.Need-loop-less Inv-loop μ-loop
 loop-less c = omega arith
 
 loop-again : tie.Need-loop-again Inv-loop μ-loop
-loop-again c = (omega arith, position-row (c .before .before .before .before .loop .inv .1) (c .if1 .taken), more (c .before .before .before) (entry-stored (entry-requires (c .before .before) (c .before .entry .lifetimes)) (c .before .entry .ensures)))
+loop-again c = (omega arith, rw (← c .before .before .before .before .loop .inv .1 .long) (columns-fewer _ _ _ _ _ (c .before .spread .ensures) (omega arith)))
 
-loop-less-2 : tie.Need-loop-less-2 Inv-loop μ-loop
-loop-less-2 c = omega arith
-
-loop-again-2 : tie.Need-loop-again-2 Inv-loop μ-loop
-loop-again-2 c = (omega arith, position-next (c .before .before .before .before .loop .inv .1) (c .if1 .left), more (c .before .before .before) (entry-stored (entry-requires (c .before .before) (c .before .entry .lifetimes)) (c .before .entry .ensures)))
+same-length : tie.Need-same-length Inv-loop μ-loop
+same-length c = c .before .loop .inv .1 .long
 
 returns : tie.Need-returns Inv-loop μ-loop
-returns c = columns-ended _ _ _ _ _ (omega (arith, c .before .before .before .pre .1)) (c .before .loop .inv .2)
+returns c = columns-ended _ _ _ _ _ (mul-le-mul-right _ (c .loop-test .left)) (c .before .loop .inv .1)
 
 pub columns-spec : {M : Type 1} → statement M
 columns-spec =
@@ -84,18 +43,9 @@ columns-spec =
     Inv-loop
     μ-loop
     loop-holds
-    mul-at
-    add-at
-    mul-entry
-    shared-slice-read-entry
-    entry-requires
-    mul-list
-    array-set-from-list
-    add-k
-    add-column
+    spread-requires
     add-row
     loop-less
     loop-again
-    loop-less-2
-    loop-again-2
+    same-length
     returns)
