@@ -10,12 +10,6 @@
 
 use crate::{library, Answer, Setting};
 
-// SAFETY, for every block below: the call is proved to meet a contract that asks
-// nothing of its arguments beyond what a slice promises: each pointer is
-// aligned, not null (that of an empty slice too) and lends as many items as its
-// length says for reading during the call. The structs are laid out as in the
-// header.
-
 /// Checks the claims of a ticket against a list of s vectors, each of n numbers
 /// below p, one vector after another.
 ///
@@ -25,8 +19,26 @@ use crate::{library, Answer, Setting};
 ///
 /// The tests are made in the order of their numbers, except that 5 to 9 are made
 /// record after record; the first that fails decides the answer.
+///
+/// ```
+/// use dikdumar::{challenge_check, write_ticket, Setting};
+///
+/// // One row, one column: 7 · 9 = 63 = 10 · 6 + 3. Two vectors of one number each.
+/// let setting = Setting::from([1, 1, 1, 2, 10, 9, 5]);
+/// let mut ticket = [0; 32];
+/// write_ticket(setting, &[7], &[9], &mut ticket);
+///
+/// let answer = challenge_check(setting, &ticket, &[1_234_567, 89]);
+/// assert_eq!(answer.numbers(), [0, 0, 0, 6]);
+///
+/// // A remainder of 13 is refused at its record, a false one is caught.
+/// ticket[28] = 13;
+/// assert_eq!(challenge_check(setting, &ticket, &[1_234_567, 89]).numbers(), [9, 3, 0, 0]);
+/// ticket[28] = 4;
+/// assert_eq!(challenge_check(setting, &ticket, &[1_234_567, 89]).numbers(), [12, 0, 0, 3]);
+/// ```
 pub fn challenge_check(setting: Setting, ticket: &[u8], list: &[u32]) -> Answer {
-    unsafe { library::dikdumar_challenge_check(setting, ticket.as_ptr(), ticket.len(), list.as_ptr(), list.len()) }
+    library::challenge_check(setting, ticket, list)
 }
 
 /// Checks every claim of a ticket, row by row. It accepts the true tickets and no
@@ -35,8 +47,22 @@ pub fn challenge_check(setting: Setting, ticket: &[u8], list: &[u32]) -> Answer 
 /// The tests are 1 to 9 as in [`challenge_check`], and then 16; the first that
 /// fails decides the answer. The number of vectors in the setting is tested with
 /// the rest of it, and not used.
+///
+/// ```
+/// use dikdumar::{full_check, write_ticket, Setting};
+///
+/// // One row of A, two columns of B: 7 · 9 = 63 and 7 · (-9) = -63, over 10.
+/// let setting = Setting::from([1, 1, 2, 1, 10, 9, 5]);
+/// let mut ticket = [0; 56];
+/// write_ticket(setting, &[7], &[9, -9], &mut ticket);
+/// assert_eq!(full_check(setting, &ticket).numbers(), [0, 0, 0, 2]);
+///
+/// // -63 is 10 · (-7) + 7. With the remainder 3, the claim in column 1 is untrue.
+/// ticket[52] = 3;
+/// assert_eq!(full_check(setting, &ticket).numbers(), [16, 1, 0, 2]);
+/// ```
 pub fn full_check(setting: Setting, ticket: &[u8]) -> Answer {
-    unsafe { library::dikdumar_full_check(setting, ticket.as_ptr(), ticket.len()) }
+    library::full_check(setting, ticket)
 }
 
 #[cfg(test)]

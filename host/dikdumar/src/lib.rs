@@ -5,10 +5,37 @@
 //! product, a quotient q and a remainder r with the claim αq + r = S.
 //!
 //! Every call takes every value of its arguments, and changes none that is lent
-//! for reading.
+//! for reading. None panics, allocates, or asks anything of its caller.
+//!
+//! ```
+//! use dikdumar::{challenge_check, full_check, write_ticket, Setting};
+//!
+//! // ℓ = m = n = 2, s = 1, α = 10, T = 8, v = 5.
+//! let setting = Setting::from([2, 2, 2, 1, 10, 8, 5]);
+//!
+//! let mut ticket = [0; 128];
+//! let answer = write_ticket(setting, &[3, -2, 5, 4], &[-1, 6, 7, -8], &mut ticket);
+//! assert_eq!(answer.numbers(), [0, 128, 0, 8]);
+//!
+//! assert_eq!(full_check(setting, &ticket).number, 0);
+//! // In use, the list is drawn at random once the ticket is fixed.
+//! assert_eq!(challenge_check(setting, &ticket, &[1, 2]).number, 0);
+//!
+//! // The first quotient, -2, becomes -1: its claim is untrue.
+//! ticket[8 * 8 + 4] += 1;
+//! assert_eq!(challenge_check(setting, &ticket, &[1, 5]).number, 12);
+//! assert_eq!(full_check(setting, &ticket).number, 16);
+//! ```
+//!
+//! The library is linked from target/staticlib/libdikdumar.a, which
+//! `rt staticlib dikdumar` writes.
+
+#![deny(unsafe_code)]
+#![warn(missing_docs)]
 
 mod answer;
 pub mod check;
+#[allow(unsafe_code)]
 mod library;
 pub mod residue;
 mod setting;

@@ -1,9 +1,35 @@
-//! The calls on tickets of include/dikdumar.h, declared once.
+//! The calls of include/dikdumar.h, declared once. All unsafe code of this crate
+//! stands here.
+//!
+//! The calls are proved to meet contracts that ask nothing of a number. So the
+//! residue calls, which take numbers alone, are declared safe. Of a pointer the
+//! calls on tickets ask what the header says, and slices promise all of it:
+//!
+//! - The pointer lends as many items as the length beside it says: both are taken
+//!   from one slice.
+//! - It is aligned and not null, also where the length is 0: so is the pointer of
+//!   every slice, of an empty one too.
+//! - The output does not overlap the operands: it is a `&mut` slice, so nothing
+//!   else reaches its bytes during the call.
+//! - Nothing is written but the output, which is the only slice lent by `&mut`.
+//! - The items are lent during the call only: a call keeps no pointer, always
+//!   returns, and does not unwind.
+//!
+//! What is left to trust is that the declarations below, and the layouts of
+//! `Setting` and `Answer`, are those of the header.
 
 use crate::{Answer, Setting};
 
-extern "C" {
-    pub fn dikdumar_challenge_check(
+unsafe extern "C" {
+    pub safe fn dikdumar_reduce(x: u32) -> u32;
+    pub safe fn dikdumar_add(x: u32, y: u32) -> u32;
+    pub safe fn dikdumar_subtract(x: u32, y: u32) -> u32;
+    pub safe fn dikdumar_multiply(x: u32, y: u32) -> u32;
+    pub safe fn dikdumar_from_signed(x: i32) -> u32;
+    pub safe fn dikdumar_to_signed(x: u32) -> i32;
+    pub safe fn dikdumar_power_of_two(k: u32) -> u32;
+
+    fn dikdumar_challenge_check(
         setting: Setting,
         ticket: *const u8,
         ticket_length: usize,
@@ -11,9 +37,9 @@ extern "C" {
         list_length: usize,
     ) -> Answer;
 
-    pub fn dikdumar_full_check(setting: Setting, ticket: *const u8, ticket_length: usize) -> Answer;
+    fn dikdumar_full_check(setting: Setting, ticket: *const u8, ticket_length: usize) -> Answer;
 
-    pub fn dikdumar_write_ticket(
+    fn dikdumar_write_ticket(
         setting: Setting,
         a: *const i32,
         a_length: usize,
@@ -22,4 +48,20 @@ extern "C" {
         output: *mut u8,
         output_length: usize,
     ) -> Answer;
+}
+
+pub fn challenge_check(setting: Setting, ticket: &[u8], list: &[u32]) -> Answer {
+    // SAFETY: slices promise what the call asks of its pointers; see above.
+    unsafe { dikdumar_challenge_check(setting, ticket.as_ptr(), ticket.len(), list.as_ptr(), list.len()) }
+}
+
+pub fn full_check(setting: Setting, ticket: &[u8]) -> Answer {
+    // SAFETY: as in `challenge_check`.
+    unsafe { dikdumar_full_check(setting, ticket.as_ptr(), ticket.len()) }
+}
+
+pub fn write_ticket(setting: Setting, a: &[i32], b: &[i32], output: &mut [u8]) -> Answer {
+    let (room, length) = (output.as_mut_ptr(), output.len());
+    // SAFETY: as in `challenge_check`; the output is borrowed mutably, so it lies apart from the operands.
+    unsafe { dikdumar_write_ticket(setting, a.as_ptr(), a.len(), b.as_ptr(), b.len(), room, length) }
 }

@@ -3,57 +3,57 @@
 //! Every call takes every value of its arguments. A residue is handed in by any
 //! number that is equal to it modulo p, and handed out as the least one, from 0
 //! to p - 1.
+//!
+//! ```
+//! use dikdumar::residue;
+//!
+//! let p = 2_147_483_647;
+//! assert_eq!(residue::reduce(p), 0);
+//! assert_eq!(residue::add(p - 1, 2), 1);
+//! assert_eq!(residue::subtract(1, 2), p - 1);
+//! assert_eq!(residue::multiply(p - 1, p - 1), 1);
+//! assert_eq!(residue::from_signed(-2), p - 2);
+//! assert_eq!(residue::to_signed(p - 2), -2);
+//! assert_eq!(residue::power_of_two(30), 1_073_741_824);
+//! assert_eq!(residue::power_of_two(31), 0);
+//! ```
 
-/// The residue calls of include/dikdumar.h, declared once.
-mod library {
-    extern "C" {
-        pub fn dikdumar_reduce(x: u32) -> u32;
-        pub fn dikdumar_add(x: u32, y: u32) -> u32;
-        pub fn dikdumar_subtract(x: u32, y: u32) -> u32;
-        pub fn dikdumar_multiply(x: u32, y: u32) -> u32;
-        pub fn dikdumar_from_signed(x: i32) -> u32;
-        pub fn dikdumar_to_signed(x: u32) -> i32;
-        pub fn dikdumar_power_of_two(k: u32) -> u32;
-    }
-}
-
-// SAFETY, for every block below: the call is proved to meet a contract that
-// asks nothing of its arguments, which are numbers and are passed as such.
+use crate::library;
 
 /// The least residue of `x`.
 pub fn reduce(x: u32) -> u32 {
-    unsafe { library::dikdumar_reduce(x) }
+    library::dikdumar_reduce(x)
 }
 
 /// The least residue of `x + y`.
 pub fn add(x: u32, y: u32) -> u32 {
-    unsafe { library::dikdumar_add(x, y) }
+    library::dikdumar_add(x, y)
 }
 
 /// The least residue of `x - y`, also where `x` is below `y`.
 pub fn subtract(x: u32, y: u32) -> u32 {
-    unsafe { library::dikdumar_subtract(x, y) }
+    library::dikdumar_subtract(x, y)
 }
 
 /// The least residue of the exact product of `x` and `y`.
 pub fn multiply(x: u32, y: u32) -> u32 {
-    unsafe { library::dikdumar_multiply(x, y) }
+    library::dikdumar_multiply(x, y)
 }
 
 /// The least residue of a signed number.
 pub fn from_signed(x: i32) -> u32 {
-    unsafe { library::dikdumar_from_signed(x) }
+    library::dikdumar_from_signed(x)
 }
 
 /// The signed entry that the residue `x` stands for: the number from
 /// -(p - 1)/2 to (p - 1)/2 that is equal to `x` modulo p.
 pub fn to_signed(x: u32) -> i32 {
-    unsafe { library::dikdumar_to_signed(x) }
+    library::dikdumar_to_signed(x)
 }
 
 /// 2^k for `k` up to 30, and 0 above.
 pub fn power_of_two(k: u32) -> u32 {
-    unsafe { library::dikdumar_power_of_two(k) }
+    library::dikdumar_power_of_two(k)
 }
 
 #[cfg(test)]

@@ -5,6 +5,17 @@
 ///
 /// A setting fits when m·T² + α - 1 ≤ 2^(v-1)·α and 2^v·α < p. One that is
 /// beyond its limits or does not fit is refused, as number 1, 2 or 3.
+///
+/// ```
+/// use dikdumar::Setting;
+///
+/// let setting = Setting::from([2, 2, 2, 1, 10, 8, 5]);
+/// assert_eq!((setting.scale, setting.bound, setting.width), (10, 8, 5));
+///
+/// // With a width of 4 bits it does not fit.
+/// let narrow = Setting { width: 4, ..setting };
+/// assert_eq!(dikdumar::full_check(narrow, &[]).number, 3);
+/// ```
 #[repr(C)]
 #[derive(Clone, Copy, Debug, PartialEq, Eq)]
 pub struct Setting {

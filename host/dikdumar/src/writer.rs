@@ -11,23 +11,29 @@ use crate::{library, Answer, Setting};
 /// that length is unchanged. Every other answer is a refusal, by the tests 1, 2,
 /// 3, 13, 14 and 15 in this order, and leaves the whole output unchanged. The
 /// number of vectors in the setting is tested with the rest of it, and not used.
+///
+/// ```
+/// use dikdumar::{write_ticket, Setting};
+///
+/// // One row, one column, over 10.
+/// let setting = Setting::from([1, 1, 1, 1, 10, 9, 5]);
+/// let mut output = [0xFF; 40];
+/// let answer = write_ticket(setting, &[7], &[-9], &mut output);
+/// assert_eq!(answer.numbers(), [0, 32, 0, 1]);
+///
+/// // -63 is 10 · (-7) + 7. The quotient is written as the least residue of -7.
+/// let (ticket, rest) = output.split_at(answer.place as usize);
+/// assert_eq!(ticket[16..24], [3, 0, 0, 0, 0xF8, 0xFF, 0xFF, 0x7F]);
+/// assert_eq!(ticket[24..32], [4, 0, 0, 0, 7, 0, 0, 0]);
+/// assert_eq!(rest, [0xFF; 8]);
+///
+/// // An operand beyond T is refused, by its index, and nothing is written.
+/// let mut output = [0xFF; 40];
+/// assert_eq!(write_ticket(setting, &[7], &[-10], &mut output).numbers(), [14, 1, 0, 0]);
+/// assert_eq!(output, [0xFF; 40]);
+/// ```
 pub fn write_ticket(setting: Setting, a: &[i32], b: &[i32], output: &mut [u8]) -> Answer {
-    // SAFETY: the call is proved to meet a contract that asks nothing of its
-    // arguments beyond what slices promise: each pointer is aligned, not null
-    // (that of an empty slice too) and lends as many items as its length says
-    // during the call, those of the operands for reading, those of the output
-    // for writing and to no other. The structs are laid out as in the header.
-    unsafe {
-        library::dikdumar_write_ticket(
-            setting,
-            a.as_ptr(),
-            a.len(),
-            b.as_ptr(),
-            b.len(),
-            output.as_mut_ptr(),
-            output.len(),
-        )
-    }
+    library::write_ticket(setting, a, b, output)
 }
 
 #[cfg(test)]
