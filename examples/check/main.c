@@ -1,104 +1,112 @@
 /*
- * Checks a small ticket: the true one, a false one, and a damaged one.
+ * A line controller's part: a ticket stands in memory as it was received, is
+ * checked in both ways, and the answers say what becomes of the pallet.
  *
  *     bash examples/run check
+ *
+ * host/dikdumar/examples/check.rs is the same in Rust.
  */
 #include <stdio.h>
+#include <string.h>
 
 #include "dikdumar.h"
 
 enum { ROWS = 2, INNER = 2, COLUMNS = 2, RECORD = 8 };
 enum { TICKET = RECORD * (ROWS * INNER + INNER * COLUMNS + 2 * ROWS * COLUMNS) };
 
-/* Writes one matrix as records, row by row, and returns where it ends. */
-static uint8_t *write_part(uint8_t *at, uint8_t kind, const int32_t *entries, int rows, int columns)
+/* rows, inner, columns, vectors, scale, bound, width */
+static const dikdumar_setting SETTING = {ROWS, INNER, COLUMNS, 1, 10, 8, 5};
+
+/* A times B is (-17, 34), (23, -2); the claims are these sums over 10, rounded
+ * down, and what is left. */
+static const uint8_t RECEIVED[TICKET] = {
+    0x01, 0x00, 0x00, 0x00, 0x03, 0x00, 0x00, 0x00, /* A: 3 */
+    0x01, 0x00, 0x00, 0x01, 0xFD, 0xFF, 0xFF, 0x7F, /* -2 */
+    0x01, 0x00, 0x01, 0x00, 0x05, 0x00, 0x00, 0x00, /* 5 */
+    0x01, 0x00, 0x01, 0x01, 0x04, 0x00, 0x00, 0x00, /* 4 */
+    0x02, 0x00, 0x00, 0x00, 0xFE, 0xFF, 0xFF, 0x7F, /* B: -1 */
+    0x02, 0x00, 0x00, 0x01, 0x06, 0x00, 0x00, 0x00, /* 6 */
+    0x02, 0x00, 0x01, 0x00, 0x07, 0x00, 0x00, 0x00, /* 7 */
+    0x02, 0x00, 0x01, 0x01, 0xF7, 0xFF, 0xFF, 0x7F, /* -8 */
+    0x03, 0x00, 0x00, 0x00, 0xFD, 0xFF, 0xFF, 0x7F, /* quotients: -2 */
+    0x03, 0x00, 0x00, 0x01, 0x03, 0x00, 0x00, 0x00, /* 3 */
+    0x03, 0x00, 0x01, 0x00, 0x02, 0x00, 0x00, 0x00, /* 2 */
+    0x03, 0x00, 0x01, 0x01, 0xFE, 0xFF, 0xFF, 0x7F, /* -1 */
+    0x04, 0x00, 0x00, 0x00, 0x03, 0x00, 0x00, 0x00, /* remainders: 3 */
+    0x04, 0x00, 0x00, 0x01, 0x04, 0x00, 0x00, 0x00, /* 4 */
+    0x04, 0x00, 0x01, 0x00, 0x03, 0x00, 0x00, 0x00, /* 3 */
+    0x04, 0x00, 0x01, 0x01, 0x08, 0x00, 0x00, 0x00, /* 8 */
+};
+
+static void print_answer(const char *call, dikdumar_answer answer)
 {
-    for (int row = 0; row < rows; row++) {
-        for (int column = 0; column < columns; column++) {
-            uint32_t value = dikdumar_from_signed(entries[row * columns + column]);
-            at[0] = kind;
-            at[1] = 0;
-            at[2] = (uint8_t)row;
-            at[3] = (uint8_t)column;
-            /* Little-endian, whatever the machine's own order. */
-            for (int byte = 0; byte < 4; byte++) {
-                at[4 + byte] = (uint8_t)(value >> (8 * byte));
-            }
-            at += RECORD;
-        }
-    }
-    return at;
+    printf("  %s: %lu %lu %lu %lu\n", call, (unsigned long)answer.number, (unsigned long)answer.place,
+           (unsigned long)answer.row, (unsigned long)answer.products);
 }
 
-/* A times B is (-17, 34), (23, -2); divided by 10, rounding down, it leaves
- * these quotients and remainders. */
-static void write_ticket(uint8_t *ticket, int32_t first_quotient)
+/* What to do on an answer of either check. Number 0 alone lets the pallet pass. */
+static void act(dikdumar_answer answer)
 {
-    const int32_t a[ROWS * INNER] = {3, -2, 5, 4};
-    const int32_t b[INNER * COLUMNS] = {-1, 6, 7, -8};
-    const int32_t quotients[ROWS * COLUMNS] = {first_quotient, 3, 2, -1};
-    const int32_t remainders[ROWS * COLUMNS] = {3, 4, 3, 8};
-    ticket = write_part(ticket, 1, a, ROWS, INNER);
-    ticket = write_part(ticket, 2, b, INNER, COLUMNS);
-    ticket = write_part(ticket, 3, quotients, ROWS, COLUMNS);
-    write_part(ticket, 4, remainders, ROWS, COLUMNS);
-}
+    unsigned long place = answer.place;
 
-/* What the answer says, then its four numbers. */
-static void print_answer(dikdumar_answer answer)
-{
     switch (answer.number) {
     case 0:
-        printf("accepted\n");
+        printf("  let the pallet pass\n");
         break;
-    case 1:
-    case 2:
-    case 3:
-        printf("setting refused\n");
+    case 12:
+        printf("  reject the pallet: caught in row %lu\n", (unsigned long)answer.row);
+        break;
+    case 16:
+        printf("  reject the pallet: the claim of row %lu, column %lu is untrue\n", place / COLUMNS, place % COLUMNS);
         break;
     case 4:
-        printf("ticket refused: wrong length\n");
+        printf("  hold the pallet and ask for the ticket again: wrong length\n");
         break;
     case 5:
     case 6:
     case 7:
     case 8:
     case 9:
-        printf("ticket refused at record %lu\n", (unsigned long)answer.place);
+        printf("  hold the pallet and ask for the ticket again: record %lu is refused\n", place);
         break;
-    case 10:
-        printf("list refused: wrong length\n");
-        break;
-    case 11:
-        printf("list refused at number %lu\n", (unsigned long)answer.place);
-        break;
-    case 12:
-        printf("caught in vector %lu, row %lu\n", (unsigned long)answer.place, (unsigned long)answer.row);
+    default:
+        /* The setting (1, 2, 3) or the list (10, 11), which are this program's own. */
+        printf("  hold the pallet and stop the line: the controller is wrong\n");
         break;
     }
-    printf("%lu %lu %lu %lu\n", (unsigned long)answer.number, (unsigned long)answer.place,
-           (unsigned long)answer.row, (unsigned long)answer.products);
+}
+
+static void receive(const char *name, const uint8_t *ticket, size_t length, const uint32_t *list, size_t numbers)
+{
+    dikdumar_answer challenge = dikdumar_challenge_check(SETTING, ticket, length, list, numbers);
+    dikdumar_answer full = dikdumar_full_check(SETTING, ticket, length);
+
+    printf("%s\n", name);
+    print_answer("challenge check", challenge);
+    act(challenge);
+    print_answer("full check", full);
+    act(full);
 }
 
 int main(void)
 {
-    /* rows, inner, columns, vectors, scale, bound, width */
-    const dikdumar_setting setting = {ROWS, INNER, COLUMNS, 1, 10, 8, 5};
-    const uint32_t first_list[COLUMNS] = {1, 2};
-    const uint32_t second_list[COLUMNS] = {1, 5};
+    /* In use, a list is drawn at random for each ticket once that is fixed. */
+    const uint32_t list[COLUMNS] = {1, 5};
     uint8_t ticket[TICKET];
 
-    /* The true ticket. */
-    write_ticket(ticket, -2);
-    print_answer(dikdumar_challenge_check(setting, ticket, TICKET, first_list, COLUMNS));
+    receive("a true ticket", RECEIVED, TICKET, list, COLUMNS);
 
-    /* A false one: -17 over 10 rounds down to -2, not to -1. */
-    write_ticket(ticket, -1);
-    print_answer(dikdumar_challenge_check(setting, ticket, TICKET, second_list, COLUMNS));
+    /* The first quotient, record 8, is -1: -17 over 10 rounds down to -2. */
+    memcpy(ticket, RECEIVED, TICKET);
+    ticket[8 * RECORD + 4] = 0xFE;
+    receive("a quotient rounded towards zero", ticket, TICKET, list, COLUMNS);
 
-    /* One damaged byte: the zero byte of record 5. */
-    write_ticket(ticket, -2);
-    ticket[5 * RECORD + 1] = 1;
-    print_answer(dikdumar_challenge_check(setting, ticket, TICKET, first_list, COLUMNS));
+    memcpy(ticket, RECEIVED, TICKET);
+    ticket[5 * RECORD + 1] = 0x01;
+    receive("a byte of record 5 damaged", ticket, TICKET, list, COLUMNS);
+
+    receive("the last record lost", RECEIVED, TICKET - RECORD, list, COLUMNS);
+
+    receive("a list with a number too few", RECEIVED, TICKET, list, COLUMNS - 1);
     return 0;
 }
