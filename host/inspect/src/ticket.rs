@@ -1,0 +1,133 @@
+//! The text of a ticket: its matrices and claims, or its bare records.
+
+use std::iter;
+
+use dikdumar::Setting;
+
+use crate::layout::{self, Layout, Part, RECORD};
+use crate::table::Table;
+use crate::words::{self, count, hex};
+
+/// A ticket that has as many records as its setting asks for.
+pub struct Ticket<'a> {
+    pub setting: Setting,
+    pub layout: &'a Layout,
+    pub records: &'a [[u8; RECORD]],
+    /// The records whose numbers get a star.
+    pub marked: &'a [usize],
+}
+
+impl Ticket<'_> {
+    /// The four matrices, then the claims.
+    pub fn text(&self) -> String {
+        let mut text = String::new();
+        for part in self.layout.parts() {
+            let Part {
+                name,
+                rows,
+                columns,
+                first,
+                ..
+            } = part;
+            text += &format!("\n{name}: {rows} by {columns}, from record {first}\n");
+            text += &self.matrix(part);
+        }
+        text += "\nclaims: α·q + r beside S, the exact sum of A(row, k)·B(k, column) over all k\n";
+        text += &self.claims();
+        if !self.marked.is_empty() {
+            text += "\n*: a record that the full check's answer names\n";
+        }
+        let is_residue = |record| words::signed(layout::value(record)).is_some();
+        if !self.records.iter().all(is_residue) {
+            text += "\nA number of 2147483647 or more is no residue; it is shown as it is stored.\n";
+        }
+        text
+    }
+
+    fn matrix(&self, part: Part) -> String {
+        let headings = (0..part.columns).map(|column| format!("{column} "));
+        let mut table = Table::new(iter::once(String::new()).chain(headings));
+        for row in 0..part.rows {
+            let cells = (0..part.columns).map(|column| self.cell(part, row, column));
+            table.line(iter::once(row.to_string()).chain(cells));
+        }
+        table.text()
+    }
+
+    fn claims(&self) -> String {
+        let Layout {
+            quotients, remainders, ..
+        } = *self.layout;
+        let mut table = Table::new(["row", "column", "quotient ", "remainder ", "α·q + r", "S"]);
+        for row in 0..quotients.rows {
+            for column in 0..quotients.columns {
+                let claimed = self.claimed(row, column);
+                let sum = self.exact_sum(row, column);
+                let differs = claimed.is_some() && sum.is_some() && claimed != sum;
+                table.line([
+                    row.to_string(),
+                    column.to_string(),
+                    self.cell(quotients, row, column),
+                    self.cell(remainders, row, column),
+                    claimed.map_or("-".to_string(), |claimed| claimed.to_string()),
+                    sum.map_or("-".to_string(), |sum| sum.to_string()),
+                    if differs { "differs" } else { "" }.to_string(),
+                ]);
+            }
+        }
+        table.text()
+    }
+
+    /// The number at a row and column, with a star or with room for one.
+    fn cell(&self, part: Part, row: usize, column: usize) -> String {
+        let is_marked = self.marked.contains(&part.record(row, column));
+        let star = if is_marked { '*' } else { ' ' };
+        format!("{}{star}", part.number(self.value(part, row, column)))
+    }
+
+    /// α·q + r, where both are residues.
+    fn claimed(&self, row: usize, column: usize) -> Option<i128> {
+        let quotient = words::signed(self.value(self.layout.quotients, row, column))?;
+        let remainder = self.value(self.layout.remainders, row, column);
+        words::signed(remainder)?;
+        Some(i128::from(self.setting.scale) * i128::from(quotient) + i128::from(remainder))
+    }
+
+    /// S, where all of its factors are residues.
+    fn exact_sum(&self, row: usize, column: usize) -> Option<i128> {
+        let Layout { a, b, .. } = *self.layout;
+        let factor = |part, row, column| words::signed(self.value(part, row, column)).map(i128::from);
+        let product = |k| Some(factor(a, row, k)? * factor(b, k, column)?);
+        (0..a.columns).map(product).sum()
+    }
+
+    fn value(&self, part: Part, row: usize, column: usize) -> u32 {
+        layout::value(&self.records[part.record(row, column)])
+    }
+}
+
+/// Every record as it is stored, for a ticket of another length than the tables
+/// need.
+pub fn bare(ticket: &[u8]) -> String {
+    let (records, rest) = layout::records(ticket);
+    let mut text = String::new();
+    for (number, record) in records.iter().enumerate() {
+        let [kind, _, row, column, ..] = record;
+        let (bytes, value) = (hex(record), words::value(layout::value(record)));
+        text += &format!("  {number:>4}  {bytes}  kind {kind}, row {row}, column {column}, {value}\n");
+    }
+    if !rest.is_empty() {
+        text += &format!("  and {}  {}\n", count(rest.len(), "byte"), hex(rest));
+    }
+    text
+}
+
+/// How many records are of each kind.
+pub fn kinds(ticket: &[u8], layout: &Layout) -> String {
+    let (records, _) = layout::records(ticket);
+    let of_kind = |part: Part| records.iter().filter(|record| record[0] == part.kind).count();
+    let parts = layout.parts();
+    let others = records.len() - parts.map(of_kind).iter().sum::<usize>();
+    let counts = parts.map(|part| format!("{} {}", part.name, of_kind(part)));
+    format!("  records by kind: {}, other {others}\n", counts.join(", "))
+}
