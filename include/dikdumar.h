@@ -5,7 +5,8 @@
  * Every call takes every number, whatever its value, and every byte; nothing is
  * undefined, and nothing is written anywhere but to the writer's output. A
  * pointer lends as many items as the length beside it says, for reading, or for
- * writing where it is the output.
+ * writing where it is the output. No call keeps anything between calls or uses
+ * the heap, so any number of threads may call at once.
  *
  * In the residue calls a residue is handed in by any number that is equal to it
  * modulo p: an argument of p or more is reduced first. A residue that is handed
@@ -70,9 +71,12 @@ typedef struct {
     uint32_t width;   /* v, quotients are from -2^(v-1) to 2^(v-1) - 1: 1 to 30 */
 } dikdumar_setting;
 
-/* The answer of a call; the table at each says what its numbers mean. */
+/*
+ * The answer of a call; the table at each says what its numbers mean. A ticket
+ * is accepted, or written, where number is 0 and only there.
+ */
 typedef struct {
-    uint32_t number;   /* what was found, 0 when accepted or written */
+    uint32_t number;   /* what was found, 0 to 16 */
     uint32_t place;    /* where, by the number; the length of a written ticket */
     uint32_t row;      /* the row that was caught, from 0, else 0 */
     uint32_t products; /* the products made; 0 but for numbers 0, 12 and 16 */
