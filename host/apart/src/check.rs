@@ -21,7 +21,7 @@ fn decide(setting: &Setting, ticket: &[u8], list: &[u32]) -> Result<Answer, Refu
 
 /// "The list holds s vectors of n least residues, the vectors one after
 /// another."
-fn read_list(setting: &Setting, list: &[u32]) -> Result<Vec<Vec<i128>>, Refusal> {
+pub(crate) fn read_list(setting: &Setting, list: &[u32]) -> Result<Vec<Vec<i128>>, Refusal> {
     // Both are small here.
     let count = (setting.vectors * setting.columns) as usize;
     if list.len() != count {
@@ -37,7 +37,7 @@ fn read_list(setting: &Setting, list: &[u32]) -> Result<Vec<Vec<i128>>, Refusal>
 /// "For vector t, X: u = B·X mod p is computed; then for each row i, c = sum
 /// over j of (αq + r)·X(j) mod p and the row of A times u mod p. Unequal:
 /// caught, at the first t and, within it, the first row".
-fn challenge(setting: &Setting, ticket: &Ticket, vectors: &[Vec<i128>]) -> Answer {
+pub(crate) fn challenge(setting: &Setting, ticket: &Ticket, vectors: &[Vec<i128>]) -> Answer {
     vectors
         .iter()
         .enumerate()

@@ -1,8 +1,8 @@
 //! The rules of the scope paper, followed sentence by sentence: residue
 //! arithmetic modulo p here at the root, the setting, the reading of a ticket,
-//! the challenge check, the full check and the writer in a module each, and, for
-//! those who test them, the making of tickets, true and false, and what the
-//! marked examples share.
+//! the challenge check, the full check, the writer and the program in a module
+//! each, and, for those who test them, the making of tickets, true and false, and
+//! what the marked examples share.
 //!
 //! Everything is exact integer arithmetic in `i128`. Every residue goes through
 //! one definition of the least residue. Every function takes every input,
@@ -18,6 +18,7 @@ pub mod examples;
 mod full;
 pub mod make;
 mod matrix;
+pub mod program;
 mod setting;
 mod ticket;
 mod writer;

@@ -1,0 +1,48 @@
+//! The families of folders.
+
+mod absent;
+mod arguments;
+mod challenge_length;
+mod drawn;
+mod largest;
+mod links;
+mod list_number;
+mod long;
+pub mod marked;
+mod precedence;
+mod setting_length;
+mod setting_number;
+mod surroundings;
+mod ticket_length;
+mod unreadable;
+mod value;
+
+use crate::case::Family;
+
+/// All of them. Whether permissions hold decides what stands in the place of a
+/// file without read permission.
+pub fn all(permissions_hold: bool) -> Vec<Family> {
+    vec![
+        Family::new("marked examples", marked::cases()),
+        Family::new("missing and empty files", absent::cases()),
+        Family::new("lengths of the setting file", setting_length::cases()),
+        Family::new("lengths of the ticket file", ticket_length::cases()),
+        Family::new("lengths of the challenge file", challenge_length::cases()),
+        Family::new("the largest setting", largest::cases()),
+        Family::new("precedence of the tests", precedence::cases()),
+        Family::new("numbers of the setting", setting_number::cases()),
+        Family::new("values of the ticket", value::cases()),
+        Family::new("numbers of the list", list_number::cases()),
+        Family::new("true tickets drawn", drawn::true_tickets()),
+        Family::new("false tickets drawn", drawn::false_tickets()),
+        Family::new("damaged files drawn", drawn::damaged_files()),
+        unreadable::family(permissions_hold),
+        Family::new("symbolic links", links::cases()),
+        Family::new("very long files and little memory", long::cases()),
+        Family::new("other files and names", surroundings::cases()),
+        Family::new("arguments", arguments::cases()),
+    ]
+}
+
+#[cfg(test)]
+mod tests;

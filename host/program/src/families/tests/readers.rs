@@ -1,0 +1,184 @@
+//! Readers of the three files with one thing wrong: each gives another answer in
+//! some folder of the family that is for it.
+
+use apart::program::{challenge_file, output, Files};
+
+use super::FAMILIES;
+use crate::case::Entry;
+
+/// What a reader prints for the contents of the setting, the ticket and the
+/// challenge file.
+fn right(setting: &[u8], ticket: &[u8], challenge: &[u8]) -> String {
+    output(&Files {
+        setting: Some(setting),
+        ticket: Some(ticket),
+        challenge: Some(challenge),
+    })
+}
+
+/// Whether a reader gives another answer than the right one in this family.
+fn is_found(name: &str, reader: impl Fn(&[u8], &[u8], &[u8]) -> String) -> bool {
+    let family = FAMILIES.iter().find(|family| family.name == name).expect("a family");
+    family.cases.iter().any(|case| {
+        let [setting, ticket, challenge] =
+            [&case.setting, &case.ticket, &case.challenge].map(|entry: &Entry| entry.contents().unwrap_or_default());
+        reader(&setting, &ticket, &challenge) != case.expected()
+    })
+}
+
+fn cut(bytes: &[u8], length: usize) -> &[u8] {
+    &bytes[..bytes.len().min(length)]
+}
+
+/// s·n as the setting file has it.
+fn count_of(setting: &[u8]) -> usize {
+    match setting {
+        [_, _, n, s, ..] => usize::from(*n) * usize::from(*s),
+        _ => 0,
+    }
+}
+
+/// These bytes with every four turned round.
+fn turned(bytes: &[u8]) -> Vec<u8> {
+    let mut bytes = bytes.to_vec();
+    bytes.chunks_exact_mut(4).for_each(<[u8]>::reverse);
+    bytes
+}
+
+#[test]
+fn the_right_reader_is_not_found() {
+    for family in FAMILIES.iter() {
+        assert!(!is_found(family.name, right), "{}", family.name);
+    }
+}
+
+#[test]
+fn lengths_of_the_setting() {
+    let found = |reader: fn(&[u8]) -> Vec<u8>| {
+        is_found("lengths of the setting file", |setting, ticket, challenge| {
+            right(&reader(setting), ticket, challenge)
+        })
+    };
+    // The first 16 bytes count.
+    assert!(found(|setting| cut(setting, 16).to_vec()));
+    // Missing bytes are 0.
+    assert!(found(|setting| {
+        let mut setting = setting.to_vec();
+        setting.resize(setting.len().max(16), 0);
+        setting
+    }));
+}
+
+#[test]
+fn lengths_of_the_ticket() {
+    let found = |length: fn(usize) -> usize| {
+        is_found("lengths of the ticket file", |setting, ticket, challenge| {
+            right(setting, cut(ticket, length(ticket.len())), challenge)
+        })
+    };
+    assert!(found(|length| length / 8 * 8));
+    assert!(found(|length| length % 65_536));
+    assert!(found(|length| length.min(49_152)));
+}
+
+#[test]
+fn the_begin_of_the_ticket_is_not_enough() {
+    for length in [4_096, 8_192, 32_768, 49_151] {
+        assert!(is_found("the largest setting", |setting, ticket, challenge| {
+            right(setting, cut(ticket, length), challenge)
+        }));
+    }
+}
+
+#[test]
+fn lengths_of_the_challenge() {
+    let found = |length: fn(usize, usize) -> usize| {
+        is_found("lengths of the challenge file", |setting, ticket, challenge| {
+            let asked_for = 4 * count_of(setting);
+            right(setting, ticket, cut(challenge, length(challenge.len(), asked_for)))
+        })
+    };
+    // Whole numbers only.
+    assert!(found(|length, _| length / 4 * 4));
+    assert!(found(|length, _| length % 65_536));
+    assert!(found(|length, _| length.min(1_024)));
+    assert!(found(|length, asked_for| length.min(asked_for)));
+    // One byte too many.
+    assert!(found(|length, asked_for| if length == asked_for + 1 {
+        asked_for
+    } else {
+        length
+    }));
+}
+
+#[test]
+fn bytes_in_the_other_order() {
+    assert!(is_found("marked examples", |setting, ticket, challenge| {
+        let (sizes, numbers) = setting.split_at(setting.len().min(4));
+        right(&[sizes, &turned(numbers)].concat(), ticket, challenge)
+    }));
+    assert!(is_found("numbers of the list", |setting, ticket, challenge| {
+        right(setting, ticket, &turned(challenge))
+    }));
+}
+
+#[test]
+fn numbers_of_fewer_bytes() {
+    for places in [[7, 11, 15], [6, 10, 14], [5, 9, 13]] {
+        assert!(is_found("numbers of the setting", |setting, ticket, challenge| {
+            let mut setting = setting.to_vec();
+            places.iter().for_each(|&place| setting[place] = 0);
+            right(&setting, ticket, challenge)
+        }));
+    }
+    for place in 0..4 {
+        assert!(is_found("numbers of the list", |setting, ticket, challenge| {
+            let mut challenge = challenge.to_vec();
+            challenge.iter_mut().skip(place).step_by(4).for_each(|byte| *byte = 0);
+            right(setting, ticket, &challenge)
+        }));
+    }
+}
+
+#[test]
+fn list_numbers_that_are_reduced() {
+    assert!(is_found("numbers of the list", |setting, ticket, challenge| {
+        let (numbers, _) = challenge.as_chunks();
+        let reduced: Vec<u32> = numbers
+            .iter()
+            .map(|&bytes| apart::reduce(u32::from_le_bytes(bytes)))
+            .collect();
+        right(setting, ticket, &challenge_file(&reduced))
+    }));
+}
+
+#[test]
+fn another_order_of_the_tests() {
+    let family = "precedence of the tests";
+    // The length of the list before the ticket.
+    assert!(is_found(family, |setting, ticket, challenge| {
+        let line = right(setting, ticket, challenge);
+        if line.starts_with("4 ") && challenge.len() != 4 * count_of(setting) {
+            "10 0 0 0\n".to_owned()
+        } else {
+            line
+        }
+    }));
+    // The ticket before the setting.
+    assert!(is_found(family, |setting, ticket, challenge| {
+        if ticket.is_empty() {
+            "4 0 0 0\n".to_owned()
+        } else {
+            right(setting, ticket, challenge)
+        }
+    }));
+    // The numbers of the list before its length.
+    assert!(is_found(family, |setting, ticket, challenge| {
+        let line = right(setting, ticket, challenge);
+        if line == "10 0 0 0\n" && challenge.starts_with(&[0xFF, 0xFF, 0xFF, 0x7F]) {
+            "11 0 0 0\n".to_owned()
+        } else {
+            line
+        }
+    }));
+}
