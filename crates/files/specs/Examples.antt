@@ -1,0 +1,91 @@
+-- Files under the setting K, with the ticket of case b and the challenge of case c: one table that the checker computes over the
+-- rules. Bytes of files are hexadecimal.
+use Prim.Native.Nat.{ℕ}
+use mathlib.Core.Path.{_≡_, refl}
+use mathlib.Core.List.{List, [], _∷_, _++_, map}
+use lib.ListN.{take}
+use Rattle.residue.specs.Rules.{modulus, leastResidue, signedEntry}
+use Rattle.algebra.specs.Rules.{sumℤ}
+use Rattle.ticket.specs.declared.Answer.{Answer}
+use Rattle.ticket.specs.Rules.{first, sizesWithin, numbersWithin, fits, settingNumber, isEntry, shiftedQuotient, partA, partB, quotients, remainders, records, ticketLength, partOf, bytesOf, valueAt, formed, numberOf, partNumber, recordNumber, firstRefusal, after, recordsReading, reading, valueIn, entryA, entryB, quotient, remainder, claim}
+use Rattle.challenge.specs.Rules.{listNumber, listReading, productB, claimSide, operandSide, balanced, firstRow, firstVector, verdict, challengeCheck}
+use Rattle.soundness.specs.Laws.Answers.{answer}
+use Rattle.files.specs.Rules.{wordAt, settingOf, numbersOf, fileCheck, digitsOf, decimal, field, lineOf}
+
+-- ℓ = m = n = 2, s = 1, α = 10, T = 8, v = 5
+setting : List ℕ
+setting =
+    0x02 ∷ 0x02 ∷ 0x02 ∷ 0x01
+    ∷ 0x0A ∷ 0x00 ∷ 0x00 ∷ 0x00
+    ∷ 0x08 ∷ 0x00 ∷ 0x00 ∷ 0x00
+    ∷ 0x05 ∷ 0x00 ∷ 0x00 ∷ 0x00
+    ∷ []
+
+-- A, B, the quotients and the remainders, record by record
+ticket : List ℕ
+ticket =
+    0x01 ∷ 0x00 ∷ 0x00 ∷ 0x00 ∷ 0x03 ∷ 0x00 ∷ 0x00 ∷ 0x00
+    ∷ 0x01 ∷ 0x00 ∷ 0x00 ∷ 0x01 ∷ 0xFD ∷ 0xFF ∷ 0xFF ∷ 0x7F
+    ∷ 0x01 ∷ 0x00 ∷ 0x01 ∷ 0x00 ∷ 0x05 ∷ 0x00 ∷ 0x00 ∷ 0x00
+    ∷ 0x01 ∷ 0x00 ∷ 0x01 ∷ 0x01 ∷ 0x04 ∷ 0x00 ∷ 0x00 ∷ 0x00
+    ∷ 0x02 ∷ 0x00 ∷ 0x00 ∷ 0x00 ∷ 0xFE ∷ 0xFF ∷ 0xFF ∷ 0x7F
+    ∷ 0x02 ∷ 0x00 ∷ 0x00 ∷ 0x01 ∷ 0x06 ∷ 0x00 ∷ 0x00 ∷ 0x00
+    ∷ 0x02 ∷ 0x00 ∷ 0x01 ∷ 0x00 ∷ 0x07 ∷ 0x00 ∷ 0x00 ∷ 0x00
+    ∷ 0x02 ∷ 0x00 ∷ 0x01 ∷ 0x01 ∷ 0xF7 ∷ 0xFF ∷ 0xFF ∷ 0x7F
+    ∷ 0x03 ∷ 0x00 ∷ 0x00 ∷ 0x00 ∷ 0xFD ∷ 0xFF ∷ 0xFF ∷ 0x7F
+    ∷ 0x03 ∷ 0x00 ∷ 0x00 ∷ 0x01 ∷ 0x03 ∷ 0x00 ∷ 0x00 ∷ 0x00
+    ∷ 0x03 ∷ 0x00 ∷ 0x01 ∷ 0x00 ∷ 0x02 ∷ 0x00 ∷ 0x00 ∷ 0x00
+    ∷ 0x03 ∷ 0x00 ∷ 0x01 ∷ 0x01 ∷ 0xFE ∷ 0xFF ∷ 0xFF ∷ 0x7F
+    ∷ 0x04 ∷ 0x00 ∷ 0x00 ∷ 0x00 ∷ 0x03 ∷ 0x00 ∷ 0x00 ∷ 0x00
+    ∷ 0x04 ∷ 0x00 ∷ 0x00 ∷ 0x01 ∷ 0x04 ∷ 0x00 ∷ 0x00 ∷ 0x00
+    ∷ 0x04 ∷ 0x00 ∷ 0x01 ∷ 0x00 ∷ 0x03 ∷ 0x00 ∷ 0x00 ∷ 0x00
+    ∷ 0x04 ∷ 0x00 ∷ 0x01 ∷ 0x01 ∷ 0x08 ∷ 0x00 ∷ 0x00 ∷ 0x00
+    ∷ []
+
+-- the vector (1, 2)
+challenge : List ℕ
+challenge = 0x01 ∷ 0x00 ∷ 0x00 ∷ 0x00 ∷ 0x02 ∷ 0x00 ∷ 0x00 ∷ 0x00 ∷ []
+
+-- each with what is expected last: the answer for three files; the line for them; a number in decimal
+data Example : Type 0 where
+  answers : List ℕ → List ℕ → List ℕ → Answer → Example
+  prints : List ℕ → List ℕ → List ℕ → List ℕ → Example
+  spells : ℕ → List ℕ → Example
+
+examples : List Example
+examples =
+    -- c: the line 0 0 0 12
+    answers setting ticket challenge (answer 0 0 0 12)
+    ∷ prints setting ticket challenge (48 ∷ 32 ∷ 48 ∷ 32 ∷ 48 ∷ 32 ∷ 49 ∷ 50 ∷ 10 ∷ [])
+    -- a setting file of 15 bytes and one of 17
+    ∷ answers (take 15 setting) ticket challenge (answer 1 0 0 0)
+    ∷ answers (setting ++ (0x00 ∷ [])) ticket challenge (answer 1 0 0 0)
+    -- no ticket
+    ∷ answers setting [] challenge (answer 4 0 0 0)
+    -- a challenge file of 7 bytes and one of 9, and none
+    ∷ answers setting ticket (take 7 challenge) (answer 10 0 0 0)
+    ∷ answers setting ticket (challenge ++ (0x00 ∷ [])) (answer 10 0 0 0)
+    ∷ answers setting ticket [] (answer 10 0 0 0)
+    -- a ticket of another length comes before a challenge file of another length
+    ∷ answers setting (take 127 ticket) (take 7 challenge) (answer 4 0 0 0)
+    -- no file: the line 1 0 0 0
+    ∷ answers [] [] [] (answer 1 0 0 0)
+    ∷ prints [] [] [] (49 ∷ 32 ∷ 48 ∷ 32 ∷ 48 ∷ 32 ∷ 48 ∷ 10 ∷ [])
+    ∷ spells 0 (48 ∷ [])
+    ∷ spells 9 (57 ∷ [])
+    ∷ spells 10 (49 ∷ 48 ∷ [])
+    ∷ spells 4_294_967_295 (52 ∷ 50 ∷ 57 ∷ 52 ∷ 57 ∷ 54 ∷ 55 ∷ 50 ∷ 57 ∷ 53 ∷ [])
+    ∷ []
+
+by-rules : Example → Example
+by-rules (answers s t c _) = answers s t c (fileCheck s t c)
+by-rules (prints s t c _) = prints s t c (lineOf (fileCheck s t c))
+by-rules (spells n _) = spells n (decimal n)
+
+examples-hold : map by-rules examples ≡ examples
+unfolding modulus leastResidue signedEntry sumℤ first sizesWithin numbersWithin fits settingNumber isEntry shiftedQuotient partA partB
+    quotients remainders records ticketLength partOf bytesOf valueAt formed numberOf partNumber recordNumber firstRefusal after
+    recordsReading reading valueIn entryA entryB quotient remainder claim listNumber listReading productB claimSide operandSide
+    balanced firstRow firstVector verdict challengeCheck wordAt settingOf numbersOf fileCheck digitsOf decimal field lineOf setting
+    ticket challenge examples by-rules
+examples-hold = refl

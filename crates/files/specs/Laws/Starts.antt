@@ -1,0 +1,119 @@
+-- The beginnings of the three files decide: a file that is longer than any setting asks for is refused, however much of it is read,
+-- if that is one byte more than the longest.
+--
+--   longestTicket       the most bytes of a ticket, over all settings within their limits
+--   longestChallenge    the most bytes of a challenge file
+--   whole-or-long       the first m elements of a list are all of them, or both are more than n, where n is below m
+--   long-ticket         a ticket of more bytes than any is refused
+--   start-decides       the check of the beginnings is that of the files
+--   Begins b n f        the first n bytes of the buffer b are those of the file f, as many as it has and the buffer holds
+--   read-decides        the check of what was read into buffers is that of the files
+use Prim.Native.Nat.{ℕ, _+_, _*_, _≤_, _<_}
+use native.Mathlib.Decide.{ℕ-discrete, decLe}
+use native.Mathlib.Omega.{arith}
+use mathlib.Core.Logic.{_⊎_, inl, inr, ⊎-elim}
+use mathlib.Core.Path.{_≡_, refl, sym, ap, _∙_}
+use mathlib.Core.List.{List}
+use borrow.Author.Tests.{ne-eqb}
+use lib.ListN.{length, take}
+use lib.Seq.{take-all, length-take-le}
+use Rattle.ticket.specs.declared.setting.Setting.{Setting}
+use Rattle.ticket.specs.Rules.{mostRows, mostInner, mostColumns, refusal, after, settingNumber, recordBytes, records, ticketLength, recordsReading, reading}
+use Rattle.ticket.specs.Laws.Limits.{Counts, counts, passed-setting}
+use Rattle.ticket.specs.Laws.Answers.{after-zero}
+use Rattle.ticket.specs.Laws.Passes.{passed-of}
+use Rattle.ticket.specs.Laws.Scans.{after-passed, after-refused}
+use Rattle.files.specs.Rules.{settingBytes, numberBytes, settingOf, fileCheck}
+use Rattle.files.specs.Laws.Numbers.{mostNumbers}
+use Rattle.files.specs.Laws.Checks.{setting-refused, after-setting}
+
+abbrev pub longestTicket : ℕ
+longestTicket = recordBytes * (mostRows * mostInner + mostInner * mostColumns + 2 * (mostRows * mostColumns))
+
+abbrev pub longestChallenge : ℕ
+longestChallenge = numberBytes * mostNumbers
+
+pub whole-or-long : (n m : ℕ) (l : List ℕ) → n < m → (take m l ≡ l) ⊎ ((n < length l) × (n < length (take m l)))
+whole-or-long n m l less =
+    elim (decLe (length l) m) [
+      | yes h ↦ inl (take-all m l h)
+      | no h ↦ inr (omega arith, omega (arith, length-take-le m l (omega arith)))
+    ]
+
+pub long-ticket : (G : Setting) (t : List ℕ) → longestTicket < length t → reading G t ≡ after (refusal (settingNumber G) 0) (refusal 4 0)
+unfolding reading recordsReading ticketLength records
+long-ticket G t l =
+    elim (ℕ-discrete (settingNumber G) 0) [
+      | yes e ↦
+          let c : Counts G = counts (passed-setting G e .0) in
+          after-passed (refusal (settingNumber G) 0) _ e
+          ∙ rw (ne-eqb (length t) (ticketLength G) (λ z. omega arith))
+          (sym (after-passed (refusal (settingNumber G) 0) _ e))
+      | no d ↦ after-refused (refusal (settingNumber G) 0) _ d ∙ sym (after-refused (refusal (settingNumber G) 0) _ d)
+    ]
+
+module _ (s t c : List ℕ) where
+  abbrev G : Setting
+  G = settingOf s
+
+  setting-start : (i : ℕ) → settingBytes < i → fileCheck (take i s) t c ≡ fileCheck s t c
+  setting-start i h =
+      ⊎-elim
+      (λ e. ap (λ l. fileCheck l t c) e)
+      (λ l. sym (setting-refused (take i s) t c (λ z. omega arith)) ∙ setting-refused s t c (λ z. omega arith))
+      (whole-or-long settingBytes i s h)
+
+  module _ (right : length s ≡ settingBytes) where
+    ticket-too-long : longestTicket < length t → fileCheck s t c ≡ after (refusal (settingNumber G) 0) (refusal 4 0)
+    ticket-too-long l =
+        let e = long-ticket G t l in
+        after-setting s t c right
+        ∙ after-refused (reading G t) _ (λ z. omega (arith, after-zero (refusal (settingNumber G) 0) (refusal 4 0) .0 (sym (ap (λ a. a .number) e) ∙ z)))
+        ∙ e
+
+    challenge-too-long : longestChallenge < length c → fileCheck s t c ≡ after (reading G t) (refusal 10 0)
+    challenge-too-long l =
+        after-setting s t c right
+        ∙ elim (ℕ-discrete (reading G t .number) 0) [
+          | yes p ↦
+              after-passed (reading G t) _ p ∙ rw (ne-eqb (length c) (numberBytes * (G .vectors * G .columns)) (λ z. omega (arith, passed-of G t p .counts)))
+              (sym (after-passed (reading G t) _ p))
+          | no d ↦ after-refused (reading G t) _ d ∙ sym (after-refused (reading G t) _ d)
+        ]
+
+-- where the setting file has the right length, and where it has not
+by-setting : (s t t′ c c′ : List ℕ) → (length s ≡ settingBytes → fileCheck s t c ≡ fileCheck s t′ c′) → fileCheck s t c ≡ fileCheck s t′ c′
+by-setting s t t′ c c′ same =
+    elim (ℕ-discrete (length s) settingBytes) [
+      | yes e ↦ same e
+      | no d ↦ sym (setting-refused s t c d) ∙ setting-refused s t′ c′ d
+    ]
+
+ticket-start : (s t c : List ℕ) (j : ℕ) → longestTicket < j → fileCheck s (take j t) c ≡ fileCheck s t c
+ticket-start s t c j h =
+    ⊎-elim
+    (λ e. ap (λ l. fileCheck s l c) e)
+    (λ l. by-setting s (take j t) t c c (λ e. ticket-too-long s (take j t) c e (l .1) ∙ sym (ticket-too-long s t c e (l .0))))
+    (whole-or-long longestTicket j t h)
+
+challenge-start : (s t c : List ℕ) (k : ℕ) → longestChallenge < k → fileCheck s t (take k c) ≡ fileCheck s t c
+challenge-start s t c k h =
+    ⊎-elim
+    (λ e. ap (fileCheck s t) e)
+    (λ l. by-setting s t t (take k c) c (λ e. challenge-too-long s t (take k c) e (l .1) ∙ sym (challenge-too-long s t c e (l .0))))
+    (whole-or-long longestChallenge k c h)
+
+pub start-decides : (s t c : List ℕ) (i j k : ℕ) → settingBytes < i → longestTicket < j → longestChallenge < k
+    → fileCheck (take i s) (take j t) (take k c) ≡ fileCheck s t c
+start-decides s t c i j k hs ht hc =
+    setting-start s (take j t) (take k c) i hs ∙ ticket-start s t (take k c) j ht ∙ challenge-start s t c k hc
+
+abbrev pub Begins : List ℕ → ℕ → List ℕ → Type 0
+Begins buffer n file = take n buffer ≡ take (length buffer) file
+
+pub read-decides : (setting ticket challenge : List ℕ) (i j k : ℕ)
+    → settingBytes < length setting → longestTicket < length ticket → longestChallenge < length challenge
+    → (s t c : List ℕ) → Begins setting i s → Begins ticket j t → Begins challenge k c
+    → fileCheck (take i setting) (take j ticket) (take k challenge) ≡ fileCheck s t c
+read-decides setting ticket challenge i j k hs ht hc s t c es et ec =
+    rw (es, et, ec) (start-decides s t c (length setting) (length ticket) (length challenge) hs ht hc)

@@ -1,0 +1,95 @@
+-- What the program's three files stand for, and the line that it writes: the rules. They are all that a reader has to believe
+-- beside those of the crates below; nothing is proved here. s, t and c are the bytes of setting.rec, ticket.rec and challenge.rec.
+--
+--   settingBytes       the bytes of a setting file
+--   numberBytes        the bytes of a number in a file
+--   wordOf i j k l     the number of four bytes, little-endian
+--   wordAt b i         the number that begins at byte i of b
+--   settingOf s        the setting that s stands for: ℓ, m, n, s one byte each, then α, T, v four bytes each
+--   numbersOf c        the 4-byte numbers of c, one after another
+--   fileCheck s t c    the answer of the program
+--   digit d            the byte of the digit d, in ASCII
+--   space, lineFeed    bytes of text
+--   digitsOf k n       the last digits of n, at most k
+--   decimal n          the digits of n, the first one first, with no zero in front; one digit for 0
+--   field n e          the number n in decimal, and the byte e after it
+--   lineOf a           the line of the answer a: its four numbers, a space between and a line feed after
+use Prim.Native.Nat.{ℕ, zero, suc, _+_, _*_, _/_, _%_}
+use mathlib.Core.Bool.{cond}
+use mathlib.Core.List.{List, [], _∷_, _++_}
+use lib.Dec.{ltb, eqb}
+use lib.ListN.{length, getD}
+use Rattle.ticket.specs.declared.setting.Setting.{Setting}
+use Rattle.ticket.specs.declared.Answer.{Answer}
+use Rattle.ticket.specs.Rules.{unless, refusal, after, reading}
+use Rattle.challenge.specs.Rules.{challengeCheck}
+
+-- the files
+
+abbrev pub settingBytes : ℕ
+settingBytes = 16
+
+abbrev pub numberBytes : ℕ
+numberBytes = 4
+
+abbrev pub wordOf : ℕ → ℕ → ℕ → ℕ → ℕ
+wordOf i j k l = i + 256 * j + 65_536 * k + 16_777_216 * l
+
+unfoldable pub wordAt : List ℕ → ℕ → ℕ
+wordAt bytes i = wordOf (getD bytes i 0) (getD bytes (i + 1) 0) (getD bytes (i + 2) 0) (getD bytes (i + 3) 0)
+
+unfoldable pub settingOf : List ℕ → Setting
+settingOf bytes =
+    record {
+      rows = getD bytes 0 0;
+      inner = getD bytes 1 0;
+      columns = getD bytes 2 0;
+      vectors = getD bytes 3 0;
+      scale = wordAt bytes 4;
+      bound = wordAt bytes 8;
+      width = wordAt bytes 12;
+    }
+
+-- fewer than four bytes hold no number
+unfoldable pub numbersOf : List ℕ → List ℕ
+numbersOf [] = []
+numbersOf (i ∷ []) = []
+numbersOf (i ∷ j ∷ []) = []
+numbersOf (i ∷ j ∷ k ∷ []) = []
+numbersOf (i ∷ j ∷ k ∷ l ∷ rest) = wordOf i j k l ∷ numbersOf rest
+
+-- a setting file of another length is 1; the tests 1 to 9; a challenge file of another length than 4 · s · n is 10; then the
+-- challenge check
+unfoldable pub fileCheck : List ℕ → List ℕ → List ℕ → Answer
+fileCheck s t c =
+    let G = settingOf s in
+    unless (eqb (length s) settingBytes) (refusal 1 0)
+    (after (reading G t)
+    (unless (eqb (length c) (numberBytes * (G .vectors * G .columns))) (refusal 10 0) (challengeCheck G t (numbersOf c))))
+
+-- the line
+
+abbrev pub digit : ℕ → ℕ
+digit d = 48 + d
+
+abbrev pub space : ℕ
+space = 32
+
+abbrev pub lineFeed : ℕ
+lineFeed = 10
+
+unfoldable pub digitsOf : ℕ → ℕ → List ℕ
+digitsOf zero n = []
+digitsOf (suc k) n =
+    let several = digitsOf k (n / 10) ++ (digit (n % 10) ∷ []) in
+    cond (ltb n 10) (digit n ∷ []) several
+
+-- n has at most n + 1 digits
+unfoldable pub decimal : ℕ → List ℕ
+decimal n = digitsOf (suc n) n
+
+unfoldable pub field : ℕ → ℕ → List ℕ
+field n end = decimal n ++ (end ∷ [])
+
+unfoldable pub lineOf : Answer → List ℕ
+lineOf a = field (a .number) space ++ field (a .place) space ++ field (a .row) space ++ field (a .products) lineFeed
