@@ -4,6 +4,7 @@ ghost use mathlib.Core.List.{_++_};
 ghost use Prim.Native.Nat.{_+_, _≤_};
 ghost use lib.ListN.{drop, length};
 ghost use Rattle.files.specs.Rules.{decimal, field, lineOf};
+ghost use Rattle.files.specs.Laws.Prefixes.{Leads};
 ghost use Rattle.files.specs.Laws.Lines.{longestField, Put};
 use ticket::Answer;
 
@@ -16,7 +17,7 @@ const LINE_FEED: u8 = 10;
 
 // The line of an answer, at the beginning of the output, and how long it is. The rest of the output is not changed.
 pub fn line(answer: Answer, output: &mut [u8; LONGEST_LINE]) -> usize
-    ensures { λ r. ⌜ (r ≡ length (lineOf answer)) × (now (output .exit) ≡ lineOf answer ++ drop r (now (output .entry))) ⌝ }
+    ensures { λ r. ⌜ (r ≡ length (lineOf answer)) × (now (output .exit) ≡ lineOf answer ++ drop r (now (output .entry))) × Leads r (now (output .exit)) ⌝ }
 {
     let number = put_field(output, 0, answer.number, SPACE);
     let place = put_field(output, number, answer.place, SPACE);

@@ -1,4 +1,3 @@
-use mathlib.Core.Path.{sym}
 use borrow.Author.Needs.{needs}
 use Rattle.files.specs.Laws.Checks.{setting-refused, list-checked}
 use Rattle.files.specs.Laws.Numbers.{read-long}
@@ -21,7 +20,7 @@ array-share-prefix-list : tie.Need-array-share-prefix-list
 array-share-prefix-list c = search needs
 
 slice-aggregate-check : tie.Need-slice-aggregate-check
-slice-aggregate-check c = sym (read-long _ _ (c .before .before .numbers .ensures) (c .before .count .ensures .within))
+slice-aggregate-check c = read-long _ _ (c .before .before .numbers .ensures) (c .before .count .ensures .within) .1
 
 check-requires : tie.Need-check-requires
 check-requires c κs = search needs

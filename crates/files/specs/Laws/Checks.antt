@@ -71,11 +71,11 @@ module _ (s t c : List ℕ) where
         → Filled 0 (mostNumbers + 1) (mostNumbers + 1) (λ k. wordAt c (numberBytes * k)) words → Counted (length c) n
         → a ≡ challengeCheck H t (take n words) → a ≡ fileCheck s t c
     list-checked {H} {words} {n} H-is filled counted a-is =
-        let long : length (take n words) ≡ n = read-long (mostNumbers + 1) n filled (counted .within) in
+        let long : n ≡ length (take n words) = read-long (mostNumbers + 1) n filled (counted .within) .1 in
         a-is ∙ ap (λ G. challengeCheck G t (take n words)) H-is
         ∙ same-check (take n words) (λ p.
         let few : G .vectors * G .columns ≤ mostNumbers = passed-of G t p .counts .challenges in
         let exactly = counted .exactly (G .vectors * G .columns) few in (
-          λ e. exactly .0 (sym long ∙ e),
+          λ e. exactly .0 (long ∙ e),
           λ e. numbers-read (mostNumbers + 1) n c filled (counted .within) (e ∙ ap (λ k. numberBytes * k) (sym (exactly .1 e))),
         ))

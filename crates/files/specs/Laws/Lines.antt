@@ -21,6 +21,7 @@ use lib.ListN.{length, take, drop, set, length-append, length-drop}
 use lib.Seq.{set-split, take-at, drop-append-add, drop-drop, length-take-le}
 use Rattle.ticket.specs.declared.Answer.{Answer}
 use Rattle.files.specs.Rules.{digit, space, lineFeed, decimal, field, lineOf}
+use Rattle.files.specs.Laws.Prefixes.{Leads, leads}
 use Rattle.files.specs.Laws.Decimal.{decimal-digit, decimal-longer, decimal-short}
 
 pub record Put (before : List ℕ) (at : ℕ) (text : List ℕ) (next : ℕ) (after : List ℕ) : Type 0 where
@@ -89,8 +90,9 @@ put-end {middle = middle} {next = next} n end l put = put-more put (put-byte mid
 
 pub put-line : {first second third fourth after : List ℕ} {i j k l : ℕ} (a : Answer) → Put first 0 (field (a .number) space) i second
     → Put second i (field (a .place) space) j third → Put third j (field (a .row) space) k fourth
-    → Put fourth k (field (a .products) lineFeed) l after → (l ≡ length (lineOf a)) × (after ≡ lineOf a ++ drop l first)
+    → Put fourth k (field (a .products) lineFeed) l after
+    → (l ≡ length (lineOf a)) × (after ≡ lineOf a ++ drop l first) × Leads l after
 unfolding lineOf
-put-line a number place row products =
+put-line {after = after} {l = l} a number place row products =
     let put = put-more (put-more (put-more number place) row) products in
-    (put .place ∙ omega arith, put .bytes)
+    (put .place ∙ omega arith, put .bytes, leads l after (omega (arith, put .inside, put-long put)))

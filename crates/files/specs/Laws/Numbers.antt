@@ -12,10 +12,11 @@ use mathlib.Core.Logic.{_↔_}
 use mathlib.Core.Path.{_≡_, refl, sym, ap, _∙_}
 use mathlib.Core.List.{List, [], _∷_}
 use lib.ListN.{length, getD, take, drop}
-use lib.Seq.{getD-take, getD-drop, ext-getD, length-take-le}
+use lib.Seq.{getD-take, getD-drop, ext-getD}
 use Rattle.ticket.specs.Rules.{mostColumns, mostVectors}
 use Rattle.ticket.specs.Laws.Fills.{Filled}
 use Rattle.files.specs.Rules.{numberBytes, wordOf, wordAt, numbersOf}
+use Rattle.files.specs.Laws.Prefixes.{Leads, leads}
 
 abbrev pub mostNumbers : ℕ
 mostNumbers = mostVectors * mostColumns
@@ -52,13 +53,13 @@ numbers-at (a ∷ b ∷ c ∷ d ∷ rest) (suc k) h =
     numbers-at rest k (omega arith) ∙ later-word (a ∷ b ∷ c ∷ d ∷ rest) (numberBytes * k)
     ∙ ap (wordAt (a ∷ b ∷ c ∷ d ∷ rest)) (omega arith)
 
-pub read-long : (size n : ℕ) {f : ℕ → ℕ} {words : List ℕ} → Filled 0 size size f words → n ≤ size → length (take n words) ≡ n
-read-long size n {f} {words} filled few = length-take-le n words (omega (arith, filled .long))
+pub read-long : (size n : ℕ) {f : ℕ → ℕ} {words : List ℕ} → Filled 0 size size f words → n ≤ size → Leads n words
+read-long size n {f} {words} filled few = leads n words (omega (arith, filled .long))
 
 pub numbers-read : (size n : ℕ) (c : List ℕ) {words : List ℕ} → Filled 0 size size (λ k. wordAt c (numberBytes * k)) words → n ≤ size
     → length c ≡ numberBytes * n → take n words ≡ numbersOf c
 numbers-read size n c {words} filled few e =
-    let long : length (take n words) ≡ n = read-long size n filled few in
-    ext-getD 0 (take n words) (numbersOf c) (long ∙ sym (numbers-long n c e)) (λ i l.
+    let long : n ≡ length (take n words) = read-long size n filled few .1 in
+    ext-getD 0 (take n words) (numbersOf c) (sym long ∙ sym (numbers-long n c e)) (λ i l.
     let l : i < n = omega (arith, long) in
     getD-take n words i 0 l ∙ filled .each i (omega arith) ∙ sym (numbers-at c i (omega arith)))

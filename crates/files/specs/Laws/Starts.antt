@@ -3,20 +3,19 @@
 --
 --   longestTicket       the most bytes of a ticket, over all settings within their limits
 --   longestChallenge    the most bytes of a challenge file
---   whole-or-long       the first m elements of a list are all of them, or both are more than n, where n is below m
 --   long-ticket         a ticket of more bytes than any is refused
 --   start-decides       the check of the beginnings is that of the files
 --   Begins b n f        the first n bytes of the buffer b are those of the file f, as many as it has and the buffer holds
+--   Room m b n          the buffer b has room for more than m bytes, and for n
 --   read-decides        the check of what was read into buffers is that of the files
-use Prim.Native.Nat.{ℕ, _+_, _*_, _≤_, _<_}
-use native.Mathlib.Decide.{ℕ-discrete, decLe}
+use Prim.Native.Nat.{ℕ, _+_, _*_, _<_}
+use native.Mathlib.Decide.{ℕ-discrete}
 use native.Mathlib.Omega.{arith}
-use mathlib.Core.Logic.{_⊎_, inl, inr, ⊎-elim}
-use mathlib.Core.Path.{_≡_, refl, sym, ap, _∙_}
+use mathlib.Core.Logic.{⊎-elim}
+use mathlib.Core.Path.{_≡_, sym, ap, _∙_}
 use mathlib.Core.List.{List}
 use borrow.Author.Tests.{ne-eqb}
 use lib.ListN.{length, take}
-use lib.Seq.{take-all, length-take-le}
 use Rattle.ticket.specs.declared.setting.Setting.{Setting}
 use Rattle.ticket.specs.Rules.{mostRows, mostInner, mostColumns, refusal, after, settingNumber, recordBytes, records, ticketLength, recordsReading, reading}
 use Rattle.ticket.specs.Laws.Limits.{Counts, counts, passed-setting}
@@ -24,6 +23,7 @@ use Rattle.ticket.specs.Laws.Answers.{after-zero}
 use Rattle.ticket.specs.Laws.Passes.{passed-of}
 use Rattle.ticket.specs.Laws.Scans.{after-passed, after-refused}
 use Rattle.files.specs.Rules.{settingBytes, numberBytes, settingOf, fileCheck}
+use Rattle.files.specs.Laws.Prefixes.{Leads, whole-or-long}
 use Rattle.files.specs.Laws.Numbers.{mostNumbers}
 use Rattle.files.specs.Laws.Checks.{setting-refused, after-setting}
 
@@ -32,13 +32,6 @@ longestTicket = recordBytes * (mostRows * mostInner + mostInner * mostColumns + 
 
 abbrev pub longestChallenge : ℕ
 longestChallenge = numberBytes * mostNumbers
-
-pub whole-or-long : (n m : ℕ) (l : List ℕ) → n < m → (take m l ≡ l) ⊎ ((n < length l) × (n < length (take m l)))
-whole-or-long n m l less =
-    elim (decLe (length l) m) [
-      | yes h ↦ inl (take-all m l h)
-      | no h ↦ inr (omega arith, omega (arith, length-take-le m l (omega arith)))
-    ]
 
 pub long-ticket : (G : Setting) (t : List ℕ) → longestTicket < length t → reading G t ≡ after (refusal (settingNumber G) 0) (refusal 4 0)
 unfolding reading recordsReading ticketLength records
@@ -111,9 +104,12 @@ start-decides s t c i j k hs ht hc =
 abbrev pub Begins : List ℕ → ℕ → List ℕ → Type 0
 Begins buffer n file = take n buffer ≡ take (length buffer) file
 
+abbrev pub Room : ℕ → List ℕ → ℕ → Type 0
+Room most buffer n = (most < length buffer) × Leads n buffer
+
 pub read-decides : (setting ticket challenge : List ℕ) (i j k : ℕ)
-    → settingBytes < length setting → longestTicket < length ticket → longestChallenge < length challenge
+    → Room settingBytes setting i → Room longestTicket ticket j → Room longestChallenge challenge k
     → (s t c : List ℕ) → Begins setting i s → Begins ticket j t → Begins challenge k c
     → fileCheck (take i setting) (take j ticket) (take k challenge) ≡ fileCheck s t c
-read-decides setting ticket challenge i j k hs ht hc s t c es et ec =
-    rw (es, et, ec) (start-decides s t c (length setting) (length ticket) (length challenge) hs ht hc)
+read-decides setting ticket challenge i j k rs rt rc s t c es et ec =
+    rw (es, et, ec) (start-decides s t c (length setting) (length ticket) (length challenge) (rs .0) (rt .0) (rc .0))
