@@ -60,12 +60,11 @@ fn word_at(bytes: &[u8], at: usize) -> u32
     requires { ⌜ at ≤ numberBytes * mostNumbers ⌝ }
     ensures { λ r. ⌜ r ≡ wordAt (now (bytes .entry)) at ⌝ }
 {
-    word(
-        byte_at(bytes, at),
-        byte_at(bytes, at + 1),
-        byte_at(bytes, at + 2),
-        byte_at(bytes, at + 3),
-    )
+    let a = byte_at(bytes, at);
+    let b = byte_at(bytes, at + 1);
+    let c = byte_at(bytes, at + 2);
+    let d = byte_at(bytes, at + 3);
+    word(a, b, c, d)
 }
 
 // A byte, 0 past the end.

@@ -8,21 +8,19 @@ ghost use Rattle.files.specs.Laws.Prefixes.{Leads};
 ghost use Rattle.files.specs.Laws.Lines.{longestField, Put};
 use ticket::Answer;
 
-// Four numbers of at most ten digits, and a byte after each.
-pub const LONGEST_LINE: usize = 44;
+// The ten digits that a 32-bit number has at most, and the byte after them.
+const FIELD: usize = 11;
 
-const SPACE: u8 = 32;
-
-const LINE_FEED: u8 = 10;
+pub const LONGEST_LINE: usize = 4 * FIELD;
 
 // The line of an answer, at the beginning of the output, and how long it is. The rest of the output is not changed.
 pub fn line(answer: Answer, output: &mut [u8; LONGEST_LINE]) -> usize
     ensures { λ r. ⌜ (r ≡ length (lineOf answer)) × (now (output .exit) ≡ lineOf answer ++ drop r (now (output .entry))) × Leads r (now (output .exit)) ⌝ }
 {
-    let number = put_field(output, 0, answer.number, SPACE);
-    let place = put_field(output, number, answer.place, SPACE);
-    let row = put_field(output, place, answer.row, SPACE);
-    put_field(output, row, answer.products, LINE_FEED)
+    let number = put_field(output, 0, answer.number, b' ');
+    let place = put_field(output, number, answer.place, b' ');
+    let row = put_field(output, place, answer.row, b' ');
+    put_field(output, row, answer.products, b'\n')
 }
 
 // A number and the byte after it, from a place of the output on; the place after them.
@@ -41,10 +39,10 @@ fn put_number(output: &mut [u8], at: usize, number: u32) -> usize
     ensures { λ r. ⌜ Put (now (output .entry)) at (decimal number) r (now (output .exit)) ⌝ }
 {
     if number < 10 {
-        output[at] = 48 + (number as u8);
+        output[at] = b'0' + (number as u8);
         return at + 1;
     }
     let last = put_number(output, at, number / 10);
-    output[last] = 48 + ((number % 10) as u8);
+    output[last] = b'0' + ((number % 10) as u8);
     last + 1
 }

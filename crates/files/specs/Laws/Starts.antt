@@ -6,16 +6,18 @@
 --   long-ticket         a ticket of more bytes than any is refused
 --   start-decides       the check of the beginnings is that of the files
 --   Begins b n f        the first n bytes of the buffer b are those of the file f, as many as it has and the buffer holds
+--   read-begins         so it is where the file's first bytes are put at the beginning of a buffer
 --   Room m b n          the buffer b has room for more than m bytes, and for n
 --   read-decides        the check of what was read into buffers is that of the files
-use Prim.Native.Nat.{ℕ, _+_, _*_, _<_}
+use Prim.Native.Nat.{ℕ, _+_, _*_, _<_, min}
 use native.Mathlib.Decide.{ℕ-discrete}
 use native.Mathlib.Omega.{arith}
 use mathlib.Core.Logic.{⊎-elim}
 use mathlib.Core.Path.{_≡_, sym, ap, _∙_}
-use mathlib.Core.List.{List}
+use mathlib.Core.List.{List, _++_}
 use borrow.Author.Tests.{ne-eqb}
-use lib.ListN.{length, take}
+use lib.ListN.{length, take, drop, length-append, length-take, length-drop}
+use lib.Seq.{take-at}
 use Rattle.ticket.specs.declared.setting.Setting.{Setting}
 use Rattle.ticket.specs.Rules.{mostRows, mostInner, mostColumns, refusal, after, settingNumber, recordBytes, records, ticketLength, recordsReading, reading}
 use Rattle.ticket.specs.Laws.Limits.{Counts, counts, passed-setting}
@@ -103,6 +105,15 @@ start-decides s t c i j k hs ht hc =
 
 abbrev pub Begins : List ℕ → ℕ → List ℕ → Type 0
 Begins buffer n file = take n buffer ≡ take (length buffer) file
+
+-- the file's first bytes, put at the beginning of a buffer, over what it held
+pub read-begins : (buffer file : List ℕ)
+    → Begins (take (length buffer) file ++ drop (length file) buffer) (min (length buffer) (length file)) file
+read-begins buffer file =
+    let read : length (take (length buffer) file) ≡ min (length buffer) (length file) = length-take (length buffer) file in
+    let long : length (take (length buffer) file ++ drop (length file) buffer) ≡ length buffer =
+    simp (length-append, length-take, length-drop) (omega arith) in
+    take-at (take (length buffer) file) (drop (length file) buffer) _ read ∙ ap (λ n. take n file) (sym long)
 
 abbrev pub Room : ℕ → List ℕ → ℕ → Type 0
 Room most buffer n = (most < length buffer) × Leads n buffer
