@@ -15,7 +15,7 @@ use lib.ListN.{length, getD, take, drop}
 use lib.Seq.{getD-take, getD-drop, ext-getD}
 use Rattle.ticket.specs.Rules.{mostColumns, mostVectors}
 use Rattle.ticket.specs.Laws.Fills.{Filled}
-use Rattle.files.specs.Rules.{numberBytes, wordOf, wordAt, numbersOf}
+use Rattle.files.specs.Rules.{numberBytes, wordAt, numbersOf}
 use Rattle.files.specs.Laws.Prefixes.{Leads, leads}
 
 abbrev pub mostNumbers : ℕ

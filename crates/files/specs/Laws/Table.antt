@@ -10,7 +10,7 @@ use lib.ListN.{length, replicate, length-replicate}
 use Rattle.ticket.specs.declared.setting.Setting.{Setting}
 use Rattle.ticket.specs.Laws.Refusals.{setting-or-length-row}
 use Rattle.challenge.specs.Rules.{challengeCheck}
-use Rattle.soundness.specs.Laws.Answers.{TableRow, reading-row, list-length-row, answer-in-table}
+use Rattle.soundness.specs.Laws.Answers.{TableRow, reading-row, answer-in-table}
 use Rattle.files.specs.Rules.{settingBytes, numberBytes, settingOf, numbersOf, fileCheck}
 use Rattle.files.specs.Laws.Checks.{setting-refused, same-check, as-call}
 
