@@ -1,13 +1,13 @@
 -- What the program's three files stand for, and the line that it writes: the rules. They are all that a reader has to believe
--- beside those of the crates below; nothing is proved here. s, t and c are the bytes of setting.rec, ticket.rec and challenge.rec.
+-- beside those of the crates below; nothing is proved here. b is the bytes of a file.
 --
 --   settingBytes       the bytes of a setting file
 --   numberBytes        the bytes of a number in a file
 --   wordOf i j k l     the number of four bytes, little-endian
 --   wordAt b i         the number that begins at byte i of b
---   settingOf s        the setting that s stands for: ℓ, m, n, s one byte each, then α, T, v four bytes each
---   numbersOf c        the 4-byte numbers of c, one after another
---   fileCheck s t c    the answer of the program
+--   settingOf b        the setting that b stands for: ℓ, m, n, s one byte each, then α, T, v four bytes each
+--   numbersOf b        the 4-byte numbers of b, one after another
+--   fileCheck s t c    the answer of the program, for the bytes of setting.rec, ticket.rec and challenge.rec
 --   digit d            the byte of the digit d, in ASCII
 --   space, lineFeed    bytes of text
 --   digitsOf k n       the last digits of n, at most k
@@ -61,11 +61,12 @@ numbersOf (i ∷ j ∷ k ∷ l ∷ rest) = wordOf i j k l ∷ numbersOf rest
 -- a setting file of another length is 1; the tests 1 to 9; a challenge file of another length than 4 · s · n is 10; then the
 -- challenge check
 unfoldable pub fileCheck : List ℕ → List ℕ → List ℕ → Answer
-fileCheck s t c =
-    let G = settingOf s in
-    unless (eqb (length s) settingBytes) (refusal 1 0)
-    (after (reading G t)
-    (unless (eqb (length c) (numberBytes * (G .vectors * G .columns))) (refusal 10 0) (challengeCheck G t (numbersOf c))))
+fileCheck setting ticket challenge =
+    let G = settingOf setting in
+    unless (eqb (length setting) settingBytes) (refusal 1 0)
+    (after (reading G ticket)
+    (unless (eqb (length challenge) (numberBytes * (G .vectors * G .columns))) (refusal 10 0)
+    (challengeCheck G ticket (numbersOf challenge))))
 
 -- the line
 

@@ -1,4 +1,4 @@
--- The check of the three files, as the code makes it.
+-- The check of the three files, as the code makes it. s, t and c are the bytes of setting.rec, ticket.rec and challenge.rec.
 --
 --   setting-refused   a setting file of another length is refused by 1
 --   after-setting     a setting file of the right length: what comes after it
