@@ -6,7 +6,7 @@
 --   Prime p            p is a prime number
 --   powerOfTwo k       two to the power k, and 0 for an exponent above 30
 --   sum n f            f 0 + f 1 + .. + f (n - 1)
---   WithProduct l h x y l' h'   the two words l and h with the product x · y added are l' and h'
+--   WithNumber l h n l' h'   the two words l and h with the number n added are l' and h'
 --
 -- The rules are shut: outside this crate a proof cites the laws (Laws/), and only a module of worked examples opens a rule.
 use Prim.Native.Nat.{ℕ, zero, suc, _+_, _-_, _*_, _/_, _%_, _^_, _<_}
@@ -40,7 +40,7 @@ unfoldable pub sum : ℕ → (ℕ → ℕ) → ℕ
 sum zero f = 0
 sum (suc n) f = sum n f + f n
 
--- the product's low 31 bits go to the one word, what stands above them to the other, each modulo 2^64
-pub record WithProduct (low high x y low' high' : ℕ) : Type 0 where
-  pub low-is : low' ≡ (low + x * y % 2 ^ 31) % 2 ^ 64
-  pub high-is : high' ≡ (high + x * y / 2 ^ 31) % 2 ^ 64
+-- the number's low 31 bits go to the one word, what stands above them to the other, each modulo 2^64
+pub record WithNumber (low high n low' high' : ℕ) : Type 0 where
+  pub low-is : low' ≡ (low + n % 2 ^ 31) % 2 ^ 64
+  pub high-is : high' ≡ (high + n / 2 ^ 31) % 2 ^ 64

@@ -4,14 +4,17 @@
 --   Words k f l h   the words l and h are small, and l + 2^31 · h is the sum of the first k values of f
 --   Holds k f l h   the same, with its numbers shut in
 --   holds-none      the words 0 and 0 hold the sum of no values
---   holds-more      one more value, a product of two 32-bit numbers, is added exactly, up to 2^31 of them
+--   holds-more      one more value of 64 bits is added exactly, up to 2^31 of them
 --   holds-exact     the sum that the words hold
+--   holds-with      the sum with a last number added
+--   folded          modulo p = 2^31 - 1, two words are the sum of their low 31 bits and what stands above these
 use Prim.Native.Nat.{ℕ, _+_, _-_, _*_, _/_, _%_, _^_, _≤_, _<_}
 use native.Mathlib.Nat.{le-of-lt, lt-of-le-of-lt, mul-le-mul-left, mul-lt-mul-of-pos-right, mod-eq-of-lt}
 use native.Mathlib.Omega.{arith}
-use mathlib.Core.Path.{_≡_, _∙_}
+use mathlib.Core.Path.{_≡_, ap, _∙_}
 use lib.Pow.{pow-pos, pow-add}
-use Rattle.residue.specs.Rules.{sum, WithProduct}
+use Rattle.residue.specs.Rules.{sum, WithNumber}
+use Rattle.residue.specs.Laws.Modulo.{mod-of-multiples}
 use Rattle.residue.specs.Laws.Sums.{sum-none, sum-more}
 
 pub product-below : (k : ℕ) {a b : ℕ} → a < 2 ^ k → b < 2 ^ k → a * b < 2 ^ (k + k)
@@ -32,14 +35,28 @@ holds-none f {low} {high} none =
     let words : Words 0 f low high = omega (arith, sum-none f) in
     holds words
 
-pub holds-more : {k : ℕ} {f : ℕ → ℕ} {low high x y low' high' : ℕ} → k < 2 ^ 31 → x < 2 ^ 32 → y < 2 ^ 32 → f k ≡ x * y
-    → Holds k f low high → WithProduct low high x y low' high' → Holds (k + 1) f low' high'
-holds-more {k} {f} {low} {high} {x} {y} {low'} {high'} few hx hy term (holds words) added =
-    let xy : x * y < 2 ^ 64 = product-below 32 hx hy in
-    let l : low' ≡ low + x * y % 2 ^ 31 = added .low-is ∙ mod-eq-of-lt (omega arith) in
-    let h : high' ≡ high + x * y / 2 ^ 31 = added .high-is ∙ mod-eq-of-lt (omega arith) in
-    let more : Words (k + 1) f low' high' = omega (arith, sum-more k f) in
-    holds more
+module _ {k : ℕ} {f : ℕ → ℕ} {low high n low' high' : ℕ} (few : k < 2 ^ 31) (fits : n < 2 ^ 64) where
+  words-with : Words k f low high → WithNumber low high n low' high'
+      → (low' ≡ low + n % 2 ^ 31) × (high' ≡ high + n / 2 ^ 31)
+  words-with words added = (added .low-is ∙ mod-eq-of-lt (omega arith), added .high-is ∙ mod-eq-of-lt (omega arith))
+
+  pub holds-more : f k ≡ n → Holds k f low high → WithNumber low high n low' high' → Holds (k + 1) f low' high'
+  holds-more term (holds words) added =
+      let new = words-with words added in
+      let more : Words (k + 1) f low' high' = omega (arith, sum-more k f) in
+      holds more
+
+  pub holds-with : Holds k f low high → WithNumber low high n low' high' → low' + 2 ^ 31 * high' ≡ sum k f + n
+  holds-with (holds words) added =
+      let new = words-with words added in
+      omega (arith, words .exact)
 
 pub holds-exact : {k : ℕ} {f : ℕ → ℕ} {low high : ℕ} → Holds k f low high → low + 2 ^ 31 * high ≡ sum k f
 holds-exact (holds words) = words .exact
+
+pub folded : (p low high : ℕ) → p + 1 ≡ 2 ^ 31
+    → (low % 2 ^ 31 + low / 2 ^ 31 + (high % 2 ^ 31 + high / 2 ^ 31)) % p ≡ (low + 2 ^ 31 * high) % p
+folded p low high e =
+    let more = low / 2 ^ 31 + high / 2 ^ 31 + high in
+    mod-of-multiples p (low % 2 ^ 31 + low / 2 ^ 31 + (high % 2 ^ 31 + high / 2 ^ 31)) (low + 2 ^ 31 * high)
+    more 0 (omega (arith, ap (λ n. n * more) e))
