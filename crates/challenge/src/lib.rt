@@ -5,6 +5,7 @@ ghost use Rattle.challenge.specs.Rules.{challengeCheck};
 use ticket::Answer;
 use ticket::Setting;
 
+mod decode;
 mod lists;
 mod products;
 mod rows;
@@ -21,5 +22,5 @@ pub fn check(setting: Setting, ticket: &[u8], list: &[u32]) -> Answer
     if listed.number != 0 {
         return listed;
     }
-    rows::check_vectors(setting, ticket, list)
+    rows::check_list(setting, ticket, list)
 }

@@ -1,48 +1,121 @@
-// Products of a matrix of records with a vector, modulo p. The matrix is a slice of the ticket that starts where its part does; of
-// each record the value is read, its last four bytes.
+// Products with a vector, modulo p. One factor of each product is shifted so that it is not negative; what that adds to the sum is
+// taken off again by an offset, which is the same for every row.
 ghost use mathlib.Core.Path.{_≡_};
-ghost use lib.ListN.{length};
-ghost use Rattle.challenge.specs.Laws.Products.{dotOf, Inside, Product, Sized};
+ghost use Prim.Native.Nat.{_+_, _-_, _*_, _%_, _<_, _≤_, _^_};
+ghost use lib.ListN.{length, getD};
+ghost use Rattle.residue.specs.Rules.{modulus, sum};
+ghost use Rattle.ticket.specs.Laws.Fills.{Filled};
+ghost use Rattle.ticket.specs.Rules.{mostColumns};
+ghost use Rattle.challenge.specs.Laws.Products.{dotOf, dotWith, offsetOf, DotReady, Product, ProductReady, RecordsReady, Vector, WideReady};
+use crate::decode::shifted;
+use crate::decode::value;
 use residue::ProductSum;
+use residue::Residue;
 use ticket::RECORD;
 use ticket::Setting;
-use ticket::word;
 
 // The most rows that a matrix has here: B has as many as A has columns.
 const ROWS: usize = Setting::MOST_INNER as usize;
 
-// The first rows of the product of a matrix and a vector, which is as long as each of its rows.
-pub(crate) fn product(matrix: &[u8], rows: usize, vector: &[u32]) -> [u32; ROWS]
-    requires { ⌜ Sized (now matrix) rows (length (now vector)) ⌝ }
+// The most numbers of a vector.
+const COLUMNS: usize = Setting::MOST_COLUMNS as usize;
+
+// 2^32. No number of a vector reaches it; a remainder by it tells the compiler so.
+const WORD: u64 = 4_294_967_296;
+
+// The first rows of the product of a matrix and a vector, which is as long as each of its rows. The matrix is a slice of the ticket
+// that starts where its part does; its entries are from -bound to bound.
+pub(crate) fn product(matrix: &[u8], rows: usize, vector: &[u64], bound: u32) -> [u64; ROWS]
+    requires { ⌜ ProductReady (now matrix) rows (now vector) bound ⌝ }
     ensures { λ r. ⌜ Product (now (matrix .entry)) rows (now (vector .entry)) r ⌝ }
 {
+    let offset = offset(vector, bound);
     let mut u = [0; ROWS];
     let mut k = 0;
     while k < rows {
         let start = k * vector.len();
-        u[k] = dot(matrix, start, vector);
+        u[k] = dot_records(matrix, start, vector, bound, offset) as u64;
         k += 1;
     }
     u
 }
 
-// The sum of the products of the values of the records from start on with the numbers of a vector, modulo p.
-pub(crate) fn dot(records: &[u8], start: usize, vector: &[u32]) -> u32
-    requires { ⌜ Inside (now records) start (length (now vector)) ⌝ }
+// The sum of the products of the entries of the records from start on with the numbers of a vector, modulo p.
+fn dot_records(records: &[u8], start: usize, vector: &[u64], bound: u32, offset: u64) -> u32
+    requires { ⌜ RecordsReady (now records) start (now vector) bound offset ⌝ }
     ensures { λ r. ⌜ r ≡ dotOf (now (records .entry)) start (now (vector .entry)) ⌝ }
+{
+    let mut sum = offset;
+    let mut j = 0;
+    while j < vector.len() {
+        let entry = shifted(value(records, start + j), bound);
+        sum += (entry as u64) * (vector[j] % WORD);
+        j += 1;
+    }
+    Residue::reduce(sum).0
+}
+
+// An offset plus the sum of the products of a list of small numbers with those of a vector, modulo p.
+pub(crate) fn dot(list: &[u32], vector: &[u64], offset: u64) -> u32
+    requires { ⌜ DotReady (now list) (now vector) offset ⌝ }
+    ensures { λ r. ⌜ r ≡ dotWith offset (now (list .entry)) (now (vector .entry)) ⌝ }
+{
+    let mut sum = offset;
+    let mut j = 0;
+    while j < vector.len() {
+        sum += (list[j] as u64) * (vector[j] % WORD);
+        j += 1;
+    }
+    Residue::reduce(sum).0
+}
+
+// The same of a list of any numbers.
+pub(crate) fn wide_dot(list: &[u32], vector: &[u64], offset: u64) -> u32
+    requires { ⌜ WideReady (now list) (now vector) ⌝ }
+    ensures { λ r. ⌜ r ≡ dotWith offset (now (list .entry)) (now (vector .entry)) ⌝ }
 {
     let mut sum = ProductSum::new();
     let mut j = 0;
     while j < vector.len() {
-        let at = RECORD * (start + j);
-        let value = word(
-            records[at + 4],
-            records[at + 5],
-            records[at + 6],
-            records[at + 7],
-        );
-        sum = sum.add_product(value, vector[j]);
+        sum = sum.add((list[j] as u64) * (vector[j] % WORD));
         j += 1;
     }
-    sum.residue().0
+    sum.add(offset).residue().0
+}
+
+// What takes a shift of one factor off a sum of products with a vector: the sum of the vector times the shift's negative, modulo p.
+pub(crate) fn offset(vector: &[u64], shift: u32) -> u64
+    requires { ⌜ Vector (now vector) × (shift < modulus) ⌝ }
+    ensures { λ r. ⌜ r ≡ offsetOf shift (now (vector .entry)) ⌝ }
+{
+    let sum = Residue::reduce(total(vector)).0;
+    ((Residue::MODULUS - shift) as u64) * (sum as u64)
+}
+
+// The sum of a vector.
+fn total(vector: &[u64]) -> u64
+    requires { ⌜ Vector (now vector) ⌝ }
+    ensures { λ r. ⌜ r ≡ sum (length (now (vector .entry))) (λ j. getD (now (vector .entry)) j 0) ⌝ }
+{
+    let mut sum: u64 = 0;
+    let mut j = 0;
+    while j < vector.len() {
+        sum += vector[j];
+        j += 1;
+    }
+    sum
+}
+
+// A vector in 64-bit numbers, as its products take them.
+pub(crate) fn widened(vector: &[u32]) -> [u64; COLUMNS]
+    requires { ⌜ length (now vector) ≤ mostColumns ⌝ }
+    ensures { λ r. ⌜ Filled 0 mostColumns (length (now (vector .entry))) (λ j. getD (now (vector .entry)) j 0) r ⌝ }
+{
+    let mut list = [0; COLUMNS];
+    let mut j = 0;
+    while j < vector.len() {
+        list[j] = vector[j] as u64;
+        j += 1;
+    }
+    list
 }

@@ -1,18 +1,90 @@
 // Test 12: every row, for every vector.
 ghost use mathlib.Core.Path.{_≡_};
+ghost use Prim.Native.Nat.{_+_, _≤_, _*_};
+ghost use lib.Dec.{eqb};
+ghost use lib.ListN.{length};
 ghost use Rattle.challenge.specs.Rules.{verdict};
-ghost use Rattle.challenge.specs.Laws.Rows.{rowAnswer, RowReady};
-ghost use Rattle.challenge.specs.Laws.Vectors.{rowsAnswer, vectorAnswer, ListReady, RowsReady, VectorReady};
+ghost use Rattle.challenge.specs.Laws.Products.{dotWith};
+ghost use Rattle.challenge.specs.Laws.Rows.{agrees, Decoded, RowReady, RowsReady};
+ghost use Rattle.challenge.specs.Laws.Vectors.{rowAnswer, rowsAnswer, vectorAnswer, ListReady, VectorReady};
+use crate::decode::lifted_claims;
+use crate::decode::shifted_entries;
 use crate::products::dot;
+use crate::products::offset;
 use crate::products::product;
+use crate::products::wide_dot;
+use crate::products::widened;
 use residue::Residue;
 use ticket::Answer;
 use ticket::RECORD;
 use ticket::Setting;
 
-// All rows for all vectors, one after the other, up to the first row that is caught.
-pub(crate) fn check_vectors(setting: Setting, ticket: &[u8], list: &[u32]) -> Answer
+// Entries of A, or claims, up to which a ticket is small.
+const FEW: usize = 64;
+
+// The most entries of A, and the most claims.
+const ENTRIES: usize = 2048;
+
+const CLAIMS: usize = 1024;
+
+// All rows for all vectors of a list. For a small ticket the lists that it is decoded to are short, since clearing them takes time.
+pub(crate) fn check_list(setting: Setting, ticket: &[u8], list: &[u32]) -> Answer
     requires { ⌜ ListReady setting (now ticket) (now list) ⌝ }
+    ensures { λ r. ⌜ r ≡ verdict setting (now (ticket .entry)) (now (list .entry)) ⌝ }
+{
+    let entries = (setting.rows * setting.inner) as usize;
+    let claims = (setting.rows * setting.columns) as usize;
+    if entries <= FEW {
+        if claims <= FEW {
+            let mut a = [0; FEW];
+            let mut w = [0; FEW];
+            return check_decoded(setting, ticket, list, &mut a, &mut w);
+        }
+    }
+    let mut a = [0; ENTRIES];
+    let mut w = [0; CLAIMS];
+    check_decoded(setting, ticket, list, &mut a, &mut w)
+}
+
+// The same, with A and the claims decoded to the lists a and w, once for all vectors.
+fn check_decoded(
+    setting: Setting,
+    ticket: &[u8],
+    list: &[u32],
+    a: &mut [u32],
+    w: &mut [u32],
+) -> Answer
+    requires { ⌜ ListReady setting (now ticket) (now list) × (setting .rows * setting .inner ≤ length (now a)) × (setting .rows * setting .columns ≤ length (now w)) ⌝ }
+    ensures { λ r. ⌜ r ≡ verdict setting (now (ticket .entry)) (now (list .entry)) ⌝ }
+{
+    let entries = (setting.rows * setting.inner) as usize;
+    let operands = entries + (setting.inner * setting.columns) as usize;
+    let count = (setting.rows * setting.columns) as usize;
+    let of_quotients = RECORD * operands;
+    let of_remainders = RECORD * (operands + count);
+    let half = Residue::power_of_two(setting.width - 1).0;
+    shifted_entries(ticket, entries, setting.bound, a);
+    lifted_claims(
+        &ticket[of_quotients..],
+        &ticket[of_remainders..],
+        count,
+        half,
+        setting.scale,
+        w,
+    );
+    check_vectors(setting, ticket, a, w, half * setting.scale, list)
+}
+
+// All rows for all vectors, one after the other, up to the first row that is caught.
+fn check_vectors(
+    setting: Setting,
+    ticket: &[u8],
+    a: &[u32],
+    w: &[u32],
+    lift: u32,
+    list: &[u32],
+) -> Answer
+    requires { ⌜ ListReady setting (now ticket) (now list) × Decoded setting (now ticket) (now a) (now w) lift ⌝ }
     ensures { λ r. ⌜ r ≡ verdict setting (now (ticket .entry)) (now (list .entry)) ⌝ }
 {
     let columns = setting.columns as usize;
@@ -21,7 +93,8 @@ pub(crate) fn check_vectors(setting: Setting, ticket: &[u8], list: &[u32]) -> An
     while t < setting.vectors {
         let start = (t as usize) * columns;
         let end = start + columns;
-        answer = check_vector(setting, ticket, &list[start..end], t, answer.products);
+        let x = &list[start..end];
+        answer = check_vector(setting, ticket, a, w, lift, x, t, answer.products);
         if answer.number != 0 {
             return answer;
         }
@@ -31,30 +104,47 @@ pub(crate) fn check_vectors(setting: Setting, ticket: &[u8], list: &[u32]) -> An
 }
 
 // All rows for one vector, number t, from the products made before it.
-fn check_vector(setting: Setting, ticket: &[u8], x: &[u32], t: u32, products: u32) -> Answer
-    requires { ⌜ VectorReady setting (now ticket) (now x) products ⌝ }
+fn check_vector(
+    setting: Setting,
+    ticket: &[u8],
+    a: &[u32],
+    w: &[u32],
+    lift: u32,
+    x: &[u32],
+    t: u32,
+    products: u32,
+) -> Answer
+    requires { ⌜ VectorReady setting (now ticket) (now x) products × Decoded setting (now ticket) (now a) (now w) lift ⌝ }
     ensures { λ r. ⌜ r ≡ vectorAnswer setting (now (ticket .entry)) (now (x .entry)) t products ⌝ }
 {
     let start = setting.rows * setting.inner;
     let at = RECORD * (start as usize);
     let inner = setting.inner as usize;
-    let u = product(&ticket[at..], inner, x);
+    let columns = setting.columns as usize;
+    let x = widened(x);
+    let u = product(&ticket[at..], inner, &x[..columns], setting.bound);
     let made = products + setting.inner * setting.columns;
-    check_rows(setting, ticket, x, &u[..inner], t, made)
+    check_rows(setting, a, w, lift, &x[..columns], &u[..inner], t, made)
 }
 
 // All rows for one vector, x, and its product u with B.
 fn check_rows(
     setting: Setting,
-    ticket: &[u8],
-    x: &[u32],
-    u: &[u32],
+    a: &[u32],
+    w: &[u32],
+    lift: u32,
+    x: &[u64],
+    u: &[u64],
     t: u32,
     products: u32,
 ) -> Answer
-    requires { ⌜ RowsReady setting (now ticket) (now x) (now u) products ⌝ }
-    ensures { λ r. ⌜ r ≡ rowsAnswer setting (now (ticket .entry)) (now (x .entry)) t products ⌝ }
+    requires { ⌜ RowsReady setting (now a) (now w) lift (now x) (now u) products ⌝ }
+    ensures { λ r. ⌜ r ≡ rowsAnswer setting (agrees setting (now (a .entry)) (now (w .entry)) lift (now (x .entry)) (now (u .entry))) t products ⌝ }
 {
+    let inner = setting.inner as usize;
+    let columns = setting.columns as usize;
+    let left = offset(x, lift);
+    let right = offset(u, setting.bound);
     let mut answer = Answer {
         number: 0,
         place: 0,
@@ -63,7 +153,19 @@ fn check_rows(
     };
     let mut row: u32 = 0;
     while row < setting.rows {
-        answer = check_row(setting, ticket, x, u, t, row, answer.products);
+        let i = (row as usize) * inner;
+        let j = (row as usize) * columns;
+        answer = check_row(
+            &a[i..i + inner],
+            &w[j..j + columns],
+            x,
+            u,
+            left,
+            right,
+            t,
+            row,
+            answer.products,
+        );
         if answer.number != 0 {
             return answer;
         }
@@ -72,32 +174,25 @@ fn check_rows(
     answer
 }
 
-// One row of the ticket against vector number t, x, and its product u with B: caught, where the two sides differ. The products
-// made so far are handed in, and go out in the answer with those of this row.
+// One row, of A in a and of the claims in w, against vector number t, x, and its product u with B: caught, where the two sides differ;
+// left and right are the offsets of the two sides. The products made so far are handed in, and go out in the answer with those of this row.
 fn check_row(
-    setting: Setting,
-    ticket: &[u8],
-    x: &[u32],
-    u: &[u32],
+    a: &[u32],
+    w: &[u32],
+    x: &[u64],
+    u: &[u64],
+    left: u64,
+    right: u64,
     t: u32,
     row: u32,
     products: u32,
 ) -> Answer
-    requires { ⌜ RowReady setting (now ticket) (now x) (now u) products row ⌝ }
-    ensures { λ r. ⌜ r ≡ rowAnswer setting (now (ticket .entry)) (now (x .entry)) t row products ⌝ }
+    requires { ⌜ RowReady (now a) (now w) (now x) (now u) right products ⌝ }
+    ensures { λ r. ⌜ r ≡ rowAnswer (eqb (dotWith left (now (w .entry)) (now (x .entry))) (dotWith right (now (a .entry)) (now (u .entry)))) t row (products + length (now (x .entry)) + length (now (u .entry))) ⌝ }
 {
-    let operands = setting.rows * setting.inner + setting.inner * setting.columns;
-    let of_a = row * setting.inner;
-    let of_quotients = operands + row * setting.columns;
-    let of_remainders = operands + setting.rows * setting.columns + row * setting.columns;
-    let quotients = dot(ticket, of_quotients as usize, x);
-    let remainders = dot(ticket, of_remainders as usize, x);
-    let product = dot(ticket, of_a as usize, u);
-    let claims = Residue(quotients)
-        .multiply(Residue(setting.scale))
-        .add(Residue(remainders))
-        .0;
-    let made = products + setting.columns + setting.inner;
+    let claims = wide_dot(w, x, left);
+    let product = dot(a, u, right);
+    let made = products + (x.len() as u32) + (u.len() as u32);
     if claims != product {
         return Answer {
             number: 12,

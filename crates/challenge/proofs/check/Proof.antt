@@ -18,15 +18,15 @@ read-list-requires c κs =
 returns-2 : tie.Need-returns-2
 returns-2 c = check-list _ _ _ (c .before .before .before .before .before .read .ensures) (c .before .before .before .if1 .left) (c .before .before .read-list .ensures) (c .if2 .taken)
 
-check-vectors-requires : tie.Need-check-vectors-requires
-check-vectors-requires c κs =
+check-list-requires : tie.Need-check-list-requires
+check-list-requires c κs =
     list-ready _ _ _ (c .before .before .before .before .before .read .ensures) (c .before .before .before .if1 .left) (c .before .before .read-list .ensures) (c .if2 .left)
 
 returns-3 : tie.Need-returns-3
 returns-3 c =
-    check-rows _ _ _ (c .before .before .before .before .before .before .read .ensures) (c .before .before .before .before .if1 .left) (c .before .before .before .read-list .ensures) (c .before .if2 .left) (c .check-vectors .ensures)
+    check-rows _ _ _ (c .before .before .before .before .before .before .read .ensures) (c .before .before .before .before .if1 .left) (c .before .before .before .read-list .ensures) (c .before .if2 .left) (c .check-list .ensures)
 
 pub check-spec : {M : Type 1} → statement M
 check-spec =
     tie.close
-    (tie.spec read-requires returns read-list-requires returns-2 check-vectors-requires returns-3)
+    (tie.spec read-requires returns read-list-requires returns-2 check-list-requires returns-3)

@@ -14,7 +14,7 @@ use Rattle.ticket.specs.Laws.Parts.{length-by-parts}
 use Rattle.ticket.specs.Laws.Passes.{passed-of}
 use Rattle.ticket.specs.Laws.Scans.{after-passed, after-refused}
 use Rattle.challenge.specs.Rules.{listReading, verdict, challengeCheck}
-use Rattle.challenge.specs.Laws.Lists.{formed-length}
+use Rattle.challenge.specs.Laws.Lists.{formed-length, formed-below}
 use Rattle.challenge.specs.Laws.Vectors.{ListReady}
 
 module _ (G : Setting) (t x : List ℕ) {a : Answer} (a-is : a ≡ reading G t) where
@@ -42,4 +42,5 @@ module _ (G : Setting) (t x : List ℕ) {a : Answer} (a-is : a ≡ reading G t) 
               passed = passed;
               long = passed .long ∙ length-by-parts G;
               size = formed-length G x (sym (ap (λ c. c .number) b-is) ∙ formed);
+              below = formed-below G x (sym (ap (λ c. c .number) b-is) ∙ formed);
             }

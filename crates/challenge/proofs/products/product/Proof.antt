@@ -4,30 +4,36 @@ use mathlib.Core.Path.{refl}
 use lib.ListN.{length}
 use Rattle.ticket.specs.Laws.Fills.{filled-none, filled-more}
 use Rattle.ticket.specs.Laws.Positions.{row-inside}
-use Rattle.challenge.specs.Laws.Products.{Product}
+use Rattle.challenge.specs.Laws.Products.{Product, records-ready}
 use Rattle.challenge.proofs.products.product.Statement.{statement}
 use Rattle.challenge.proofs.products.product.Tie as tie
 
 abbrev Inv-loop : tie.InvT-loop
-Inv-loop matrix rows vector u₀ k₀ u k = (k ≤ rows) × Product matrix k vector u
+Inv-loop matrix rows vector bound offset u₀ k₀ u k = (k ≤ rows) × Product matrix k vector u
 
 abbrev μ-loop : tie.MeasureT-loop
-μ-loop matrix rows vector u₀ k₀ u k = rows - k
+μ-loop matrix rows vector bound offset u₀ k₀ u k = rows - k
+
+offset-requires : tie.Need-offset-requires Inv-loop μ-loop
+offset-requires c κs = (c .before .before .pre .vector, c .before .before .pre .shift-below)
 
 loop-holds : tie.Need-loop-holds Inv-loop μ-loop
 loop-holds c = (omega arith, filled-none _ _ _ refl)
 
 mul-start : tie.Need-mul-start Inv-loop μ-loop
-mul-start c = omega (arith, row-inside (length (c .before .before .before .before .args .vector .now)) (c .loop-test .taken))
+mul-start c = omega (arith, row-inside (length (c .before .before .before .before .before .args .vector .now)) (c .loop-test .taken), c .before .before .before .before .before .pre .long)
 
-dot-requires : tie.Need-dot-requires Inv-loop μ-loop
-dot-requires c κs = omega (arith, row-inside (length (c .before .before .before .before .args .vector .now)) (c .loop-test .taken))
+dot-records-requires : tie.Need-dot-records-requires Inv-loop μ-loop
+dot-records-requires c κs = records-ready (c .before .before .before .before .before .pre) (c .before .before .offset .ensures) (c .loop-test .taken)
+
+cast-u : tie.Need-cast-u Inv-loop μ-loop
+cast-u c = omega arith
 
 mul-u : tie.Need-mul-u Inv-loop μ-loop
 mul-u c = omega arith
 
 array-write-u : tie.Need-array-write-u Inv-loop μ-loop
-array-write-u c = omega arith
+array-write-u c = omega (arith, c .before .before .before .before .before .before .pre .few, c .before .before .loop .inv .1 .long)
 
 add-k : tie.Need-add-k Inv-loop μ-loop
 add-k c = omega arith
@@ -36,12 +42,10 @@ loop-less : tie.Need-loop-less Inv-loop μ-loop
 loop-less c = omega arith
 
 loop-again : tie.Need-loop-again Inv-loop μ-loop
-loop-again c = (omega arith, filled-more _ _ _ (omega arith) (c .before .before .loop .inv .1) (c .dot .ensures))
+loop-again c = (omega arith, filled-more _ _ _ (omega (arith, c .before .before .before .before .before .before .pre .few)) (c .before .before .loop .inv .1) (c .dot-records .ensures))
 
 returns : tie.Need-returns Inv-loop μ-loop
-returns c =
-    let p = c .before .loop .inv .1 in
-    record { long = p .long; each = λ k l. p .each k (omega arith) }
+returns c = let filled = c .before .loop .inv .1 in record { long = filled .long; each = λ k l. filled .each k (omega arith) }
 
 pub product-spec : {M : Type 1} → statement M
 product-spec =
@@ -49,9 +53,11 @@ product-spec =
     (tie.spec
     Inv-loop
     μ-loop
+    offset-requires
     loop-holds
     mul-start
-    dot-requires
+    dot-records-requires
+    cast-u
     mul-u
     array-write-u
     add-k
