@@ -1,5 +1,4 @@
-// Products with a vector, modulo p. One factor of each product is shifted so that it is not negative; what that adds to the sum is
-// taken off again by an offset, which is the same for every row.
+// Products with a vector, modulo p.
 ghost use mathlib.Core.Path.{_≡_};
 ghost use Prim.Native.Nat.{_+_, _-_, _*_, _%_, _<_, _≤_, _^_};
 ghost use lib.ListN.{length, getD};
@@ -7,7 +6,6 @@ ghost use Rattle.residue.specs.Rules.{modulus, sum};
 ghost use Rattle.ticket.specs.Laws.Fills.{Filled};
 ghost use Rattle.ticket.specs.Rules.{mostColumns};
 ghost use Rattle.challenge.specs.Laws.Products.{dotOf, dotWith, offsetOf, DotReady, Product, ProductReady, RecordsReady, Vector, WideReady};
-use crate::decode::shifted;
 use crate::decode::value;
 use residue::ProductSum;
 use residue::Residue;
@@ -24,38 +22,37 @@ const COLUMNS: usize = Setting::MOST_COLUMNS as usize;
 const WORD: u64 = 4_294_967_296;
 
 // The first rows of the product of a matrix and a vector, which is as long as each of its rows. The matrix is a slice of the ticket
-// that starts where its part does; its entries are from -bound to bound.
-pub(crate) fn product(matrix: &[u8], rows: usize, vector: &[u64], bound: u32) -> [u64; ROWS]
-    requires { ⌜ ProductReady (now matrix) rows (now vector) bound ⌝ }
+// that starts where its part does.
+pub(crate) fn product(matrix: &[u8], rows: usize, vector: &[u64]) -> [u64; ROWS]
+    requires { ⌜ ProductReady (now matrix) rows (now vector) ⌝ }
     ensures { λ r. ⌜ Product (now (matrix .entry)) rows (now (vector .entry)) r ⌝ }
 {
-    let offset = offset(vector, bound);
     let mut u = [0; ROWS];
     let mut k = 0;
     while k < rows {
         let start = k * vector.len();
-        u[k] = dot_records(matrix, start, vector, bound, offset) as u64;
+        u[k] = dot_records(matrix, start, vector) as u64;
         k += 1;
     }
     u
 }
 
-// The sum of the products of the entries of the records from start on with the numbers of a vector, modulo p.
-fn dot_records(records: &[u8], start: usize, vector: &[u64], bound: u32, offset: u64) -> u32
-    requires { ⌜ RecordsReady (now records) start (now vector) bound offset ⌝ }
+// The sum of the products of the values of the records from start on with the numbers of a vector, modulo p.
+fn dot_records(records: &[u8], start: usize, vector: &[u64]) -> u32
+    requires { ⌜ RecordsReady (now records) start (now vector) ⌝ }
     ensures { λ r. ⌜ r ≡ dotOf (now (records .entry)) start (now (vector .entry)) ⌝ }
 {
-    let mut sum = offset;
+    let mut sum = ProductSum::new();
     let mut j = 0;
     while j < vector.len() {
-        let entry = shifted(value(records, start + j), bound);
-        sum += (entry as u64) * (vector[j] % WORD);
+        let value = value(records, start + j);
+        sum = sum.add((value as u64) * (vector[j] % WORD));
         j += 1;
     }
-    Residue::reduce(sum).0
+    sum.residue().0
 }
 
-// An offset plus the sum of the products of a list of small numbers with those of a vector, modulo p.
+// An offset plus the sum of the products of a list of numbers below 2^16 with those of a vector, modulo p. The sum is far below 2^64.
 pub(crate) fn dot(list: &[u32], vector: &[u64], offset: u64) -> u32
     requires { ⌜ DotReady (now list) (now vector) offset ⌝ }
     ensures { λ r. ⌜ r ≡ dotWith offset (now (list .entry)) (now (vector .entry)) ⌝ }
@@ -83,7 +80,8 @@ pub(crate) fn wide_dot(list: &[u32], vector: &[u64], offset: u64) -> u32
     sum.add(offset).residue().0
 }
 
-// What takes a shift of one factor off a sum of products with a vector: the sum of the vector times the shift's negative, modulo p.
+// What takes a shift of the other factors off a sum of products with a vector: the vector's sum times the negative of the shift,
+// modulo p.
 pub(crate) fn offset(vector: &[u64], shift: u32) -> u64
     requires { ⌜ Vector (now vector) × (shift < modulus) ⌝ }
     ensures { λ r. ⌜ r ≡ offsetOf shift (now (vector .entry)) ⌝ }

@@ -122,7 +122,7 @@ fn check_vector(
     let inner = setting.inner as usize;
     let columns = setting.columns as usize;
     let x = widened(x);
-    let u = product(&ticket[at..], inner, &x[..columns], setting.bound);
+    let u = product(&ticket[at..], inner, &x[..columns]);
     let made = products + setting.inner * setting.columns;
     check_rows(setting, a, w, lift, &x[..columns], &u[..inner], t, made)
 }

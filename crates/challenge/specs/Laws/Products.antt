@@ -12,20 +12,17 @@
 --   word-is           a least residue is a 32-bit number
 --   total-fits        the sum of a vector fits 64 bits
 --   narrow-fits       so does the sum of its products with numbers below 2^16
---   RecordsReady b a x s o   the records of b from a on can be multiplied with x: their entries, with s added, are small
---   DotReady l x o    so can the numbers of l, which are small, with o added
+--   RecordsReady b a x   the records of b from a on can be multiplied with x
+--   DotReady l x o    so can the numbers of l, which are below 2^16, with o added
 --   WideReady l x     so can any numbers
---   shifted-terms     the products of the entries with s added
---   records-dot       their sum with the offset is the sum of the products of the values, modulo p
---   ProductReady b m x s     b has m rows of records for x
+--   ProductReady b m x   b has m rows of records for x
 --   records-ready     then each row can be multiplied
 --   Product b m x u   the first m numbers of u are the rows of b times x
 use Prim.Native.Nat.{ℕ, _+_, _-_, _*_, _%_, _≤_, _<_, _^_}
-use native.Mathlib.Nat.{mod-lt, mod-mod, mod-eq-of-lt, mul-le-mul}
+use native.Mathlib.Nat.{mod-lt, mod-eq-of-lt, mul-le-mul}
 use native.Mathlib.Omega.{arith}
 use mathlib.Core.Path.{_≡_, sym, ap, _∙_}
 use mathlib.Core.List.{List}
-use lib.Arith.{digits-lt}
 use lib.IntN.{pos}
 use lib.ListN.{length, getD}
 use Rattle.residue.specs.Rules.{modulus, leastResidue, sum}
@@ -35,8 +32,7 @@ use Rattle.residue.specs.Laws.Sums.{sum-none, sum-more, sum-below}
 use Rattle.ticket.specs.Rules.{mostInner, recordBytes, valueAt}
 use Rattle.ticket.specs.Laws.Fills.{Filled}
 use Rattle.ticket.specs.Laws.Positions.{row-inside}
-use Rattle.challenge.specs.Laws.Decodes.{shiftedEntry, Shiftable}
-use Rattle.challenge.specs.Laws.Shifts.{taken-off, shift-off, narrow-term, narrow-sum}
+use Rattle.challenge.specs.Laws.Shifts.{taken-off, narrow-term, narrow-sum}
 
 abbrev pub terms : List ℕ → ℕ → List ℕ → ℕ → ℕ
 terms bytes start x j = valueAt bytes (start + j) * getD x j 0
@@ -107,13 +103,9 @@ module _ {x : List ℕ} (vector : Vector x) {j : ℕ} (l : j < length x) where
     ),
   )
 
-pub record RecordsReady (bytes : List ℕ) (start : ℕ) (x : List ℕ) (shift offset : ℕ) : Type 0 where
+pub record RecordsReady (bytes : List ℕ) (start : ℕ) (x : List ℕ) : Type 0 where
   pub vector : Vector x
   pub long : recordBytes * (start + length x) ≤ length bytes
-  pub each : (j : ℕ) → j < length x → Shiftable shift (valueAt bytes (start + j))
-  pub small : (j : ℕ) → j < length x → shiftedEntry bytes shift (start + j) < 2 ^ 16
-  pub shift-below : shift < modulus
-  pub offset-is : offset ≡ offsetOf shift x
 
 pub record DotReady (list x : List ℕ) (offset : ℕ) : Type 0 where
   pub vector : Vector x
@@ -125,36 +117,14 @@ pub record WideReady (list x : List ℕ) : Type 0 where
   pub vector : Vector x
   pub long : length x ≤ length list
 
-abbrev pub shiftedTerms : List ℕ → ℕ → ℕ → List ℕ → ℕ → ℕ
-shiftedTerms bytes start shift x j = shiftedEntry bytes shift (start + j) * getD x j 0
-
-pub records-dot : {bytes x : List ℕ} {start shift offset : ℕ} → RecordsReady bytes start x shift offset
-    → (offset + sum (length x) (shiftedTerms bytes start shift x)) % modulus ≡ dotOf bytes start x
-unfolding dotOf
-records-dot {bytes} {x} {start} {shift} ready =
-    rw (ready .offset-is)
-    (shift-off modulus shift (length x) (λ j. valueAt bytes (start + j)) (λ j. shiftedEntry bytes shift (start + j)) (λ j. getD x j 0)
-    (omega (arith, ready .shift-below)) (λ j l. mod-mod (valueAt bytes (start + j) + shift) modulus))
-
-pub record ProductReady (bytes : List ℕ) (rows : ℕ) (x : List ℕ) (shift : ℕ) : Type 0 where
+pub record ProductReady (bytes : List ℕ) (rows : ℕ) (x : List ℕ) : Type 0 where
   pub vector : Vector x
   pub few : rows ≤ mostInner
   pub long : recordBytes * (rows * length x) ≤ length bytes
-  pub each : (k : ℕ) → k < rows * length x → Shiftable shift (valueAt bytes k)
-  pub small : (k : ℕ) → k < rows * length x → shiftedEntry bytes shift k < 2 ^ 16
-  pub shift-below : shift < modulus
 
-pub records-ready : {bytes x : List ℕ} {rows shift offset k : ℕ} → ProductReady bytes rows x shift → offset ≡ offsetOf shift x
-    → k < rows → RecordsReady bytes (k * length x) x shift offset
-records-ready {bytes} {x} {rows} {shift} {offset} {k} ready e l =
-    record {
-      vector = ready .vector;
-      long = omega (arith, ready .long, row-inside (length x) l);
-      each = λ j m. ready .each (k * length x + j) (digits-lt l m);
-      small = λ j m. ready .small (k * length x + j) (digits-lt l m);
-      shift-below = ready .shift-below;
-      offset-is = e;
-    }
+pub records-ready : {bytes x : List ℕ} {rows k : ℕ} → ProductReady bytes rows x → k < rows → RecordsReady bytes (k * length x) x
+records-ready {bytes} {x} ready l =
+    record { vector = ready .vector; long = omega (arith, ready .long, row-inside (length x) l) }
 
 abbrev pub Product : List ℕ → ℕ → List ℕ → List ℕ → Type 0
 Product bytes rows x u = Filled 0 mostInner rows (λ k. dotOf bytes (k * length x) x) u

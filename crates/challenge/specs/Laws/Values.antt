@@ -2,7 +2,7 @@
 --
 --   by-row               what holds of every row and column holds of every record of a part
 --   Small s b k          record k of b can be shifted by s, and is then below 2^16
---   entries-A, entries-B    the entries of A and B are small, shifted by the bound
+--   entries-A            the entries of A are small, shifted by the bound
 --   entries-ready        the entries of A can be decoded
 --   claims-ready         so can the claims
 --   decoded-by           both are then decoded
@@ -19,15 +19,15 @@ use lib.ListN.{length, getD}
 use Rattle.residue.specs.Rules.{modulus, powerOfTwo}
 use Rattle.residue.specs.Laws.Modulus.{modulus-is}
 use Rattle.ticket.specs.declared.setting.Setting.{Setting}
-use Rattle.ticket.specs.Rules.{Part, partA, partB, quotients, remainders, recordBytes, bytesOf, shiftedQuotient, valueAt, valueIn}
+use Rattle.ticket.specs.Rules.{Part, partA, quotients, remainders, recordBytes, bytesOf, shiftedQuotient, valueAt, valueIn}
 use Rattle.ticket.specs.Laws.Differences.{small-remainder}
 use Rattle.ticket.specs.Laws.Fills.{Filled}
 use Rattle.ticket.specs.Laws.Forms.{from, rest, from-long}
 use Rattle.ticket.specs.Laws.Layout.{value-of-part}
 use Rattle.ticket.specs.Laws.Lifts.{lift, lift-by-half}
 use Rattle.ticket.specs.Laws.Limits.{Half, half-of}
-use Rattle.ticket.specs.Laws.Parts.{tests-A, tests-B, tests-quotients, addedLength}
-use Rattle.ticket.specs.Laws.Passes.{Passed, Valid, valid-A, valid-B, valid-quotient}
+use Rattle.ticket.specs.Laws.Parts.{tests-A, tests-quotients, addedLength}
+use Rattle.ticket.specs.Laws.Passes.{Passed, Valid, valid-A, valid-quotient}
 use Rattle.challenge.specs.Laws.Decodes.{shiftedEntry, liftedClaim, Shiftable, EntriesReady, ClaimsReady}
 use Rattle.challenge.specs.Laws.Rows.{Decoded}
 
@@ -66,18 +66,6 @@ module _ {G : Setting} {t : List ℕ} (passed : Passed G t) where
       (λ i k l m.
       let valid : Valid (partA G) (valueAt t (i * G .inner + k)) = rw (value-A G t i k) at (valid-A passed i k l m) in
       let tests : Tested (partA G) (G .bound) (2 * G .bound + 1) = tests-A G (passed .numbers) .range in (
-        able (G .bound) (2 * G .bound + 1) tests valid (omega (arith, passed .numbers .bound)) (omega (arith, passed .numbers .bound)),
-        omega (arith, below-limit (G .bound) (2 * G .bound + 1) tests valid, passed .numbers .bound),
-      ))
-
-  pub entries-B : (k : ℕ) → k < G .inner * G .columns → Small (G .bound) (from (recordBytes * (G .rows * G .inner)) t) k
-  unfolding partB
-  entries-B =
-      let bytes = from (recordBytes * (G .rows * G .inner)) t in
-      by-row (Small (G .bound) bytes) (G .columns) (omega (arith, passed .counts .sizes .columns))
-      (λ k j l m.
-      let valid : Valid (partB G) (valueAt bytes (k * G .columns + j)) = rw (value-from t (partB G) k j) at (valid-B passed k j l m) in
-      let tests : Tested (partB G) (G .bound) (2 * G .bound + 1) = tests-B G (passed .numbers) .range in (
         able (G .bound) (2 * G .bound + 1) tests valid (omega (arith, passed .numbers .bound)) (omega (arith, passed .numbers .bound)),
         omega (arith, below-limit (G .bound) (2 * G .bound + 1) tests valid, passed .numbers .bound),
       ))

@@ -51,7 +51,7 @@ use Rattle.challenge.specs.Rules.{challengeAt, balanced, claimSide, oper
 use Rattle.ticket.specs.Laws.Positions.{row-inside}
 use Rattle.challenge.specs.Laws.Products.{Vector, ProductReady, Product, dotOf, offsetOf, offset-small}
 use Rattle.challenge.specs.Laws.Rows.{Decoded, RowsReady, RowReady, agrees, agrees-balanced, product-by-values}
-use Rattle.challenge.specs.Laws.Values.{entries-B, decoded-small}
+use Rattle.challenge.specs.Laws.Values.{decoded-small}
 
 abbrev pub made : ℕ → Answer
 made products = record { number = 0; place = 0; row = 0; products = products }
@@ -113,11 +113,8 @@ module _ {G : Setting} {t x : List ℕ} {products : ℕ} (ready : VectorReady G 
         below = λ j l. ready .below j (omega (arith, ready .one));
       }
 
-  bound-below : G .bound < modulus
-  bound-below = omega (arith, ready .passed .numbers .bound, modulus-is)
-
   module _ {y : List ℕ} (y-is : y ≡ x) where
-    pub matrix-ready : ProductReady (from (recordBytes * (G .rows * G .inner)) t) (G .inner) y (G .bound)
+    pub matrix-ready : ProductReady (from (recordBytes * (G .rows * G .inner)) t) (G .inner) y
     matrix-ready =
         let long : length (from (recordBytes * (G .rows * G .inner)) t) ≡ length t - recordBytes * (G .rows * G .inner) =
         from-long (recordBytes * (G .rows * G .inner)) t in
@@ -127,9 +124,6 @@ module _ {G : Setting} {t x : List ℕ} {products : ℕ} (ready : VectorReady G 
           vector = vector;
           few = omega (arith, ready .passed .counts .sizes);
           long = omega (arith, ready .long);
-          each = λ k l. entries-B (ready .passed) k (omega arith) .0;
-          small = λ k l. entries-B (ready .passed) k (omega arith) .1;
-          shift-below = bound-below;
         })
 
     module _ {u : List ℕ} (p : Product (from (recordBytes * (G .rows * G .inner)) t) (G .inner) y u) where
@@ -160,7 +154,7 @@ module _ {G : Setting} {t x : List ℕ} {products : ℕ} (ready : VectorReady G 
             rw y-is (
             record {
               counts = ready .passed .counts;
-              bound-below = bound-below;
+              bound-below = omega (arith, ready .passed .numbers .bound, modulus-is);
               lifted-below = omega (arith, decoded .lifted-is, lift-small (ready .passed .numbers) (ready .passed .fitted));
               one = ready .one;
               size = product-long;

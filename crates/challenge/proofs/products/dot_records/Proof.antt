@@ -1,48 +1,48 @@
-use Prim.Native.Nat.{_+_, _-_, _*_, _%_, _≤_}
+use Prim.Native.Nat.{_+_, _-_, _*_, _%_, _^_, _≤_, _<_}
 use native.Mathlib.Omega.{arith}
 use borrow.Author.Needs.{needs}
-use mathlib.Core.Path.{ap, _∙_}
+use mathlib.Core.Path.{_≡_, sym, ap, _∙_}
 use lib.ListN.{length, getD}
-use Rattle.residue.specs.Rules.{modulus}
+use Rattle.residue.specs.Rules.{modulus, sum}
 use Rattle.residue.specs.Laws.Modulus.{modulus-positive}
+use Rattle.residue.specs.Laws.Products.{product-below, Holds, holds-none, holds-more, holds-exact}
 use Rattle.residue.specs.Laws.Residues.{residue-of-natural}
-use Rattle.challenge.specs.Laws.Decodes.{shiftedEntry}
-use Rattle.challenge.specs.Laws.Products.{shiftedTerms, offset-small, Reached, reached-none, reached-more, reached-all, word-is, narrow-fits, records-dot}
+use Rattle.challenge.specs.Laws.Products.{terms, dotOf, word-is}
 use Rattle.challenge.proofs.products.dot_records.Statement.{statement}
 use Rattle.challenge.proofs.products.dot_records.Tie as tie
 
 abbrev Inv-loop : tie.InvT-loop
-Inv-loop records start vector bound offset s₀ j₀ s j = (j ≤ length vector) × Reached offset (shiftedTerms records start bound vector) j s
+Inv-loop records start vector s₀ j₀ s j = (j ≤ length vector) × Holds j (terms records start vector) (s .low) (s .high)
 
 abbrev μ-loop : tie.MeasureT-loop
-μ-loop records start vector bound offset s₀ j₀ s j = length vector - j
+μ-loop records start vector s₀ j₀ s j = length vector - j
+
+new-requires : tie.Need-new-requires Inv-loop μ-loop
+new-requires c κs = search needs
 
 loop-holds : tie.Need-loop-holds Inv-loop μ-loop
-loop-holds c = (omega arith, reached-none _ _)
+loop-holds c = (omega arith, holds-none _ (c .new .ensures))
 
 add-value : tie.Need-add-value Inv-loop μ-loop
-add-value c = omega (arith, c .before .before .before .before .pre .long)
+add-value c = omega (arith, c .before .before .before .before .before .pre .long)
 
 value-requires : tie.Need-value-requires Inv-loop μ-loop
-value-requires c κs = omega (arith, c .before .before .before .before .pre .long)
+value-requires c κs = omega (arith, c .before .before .before .before .before .pre .long)
 
-shifted-requires : tie.Need-shifted-requires Inv-loop μ-loop
-shifted-requires c κs = rw (c .value .ensures) (c .before .before .before .before .before .pre .each _ (c .before .loop-test .taken))
+cast-add : tie.Need-cast-add Inv-loop μ-loop
+cast-add c = omega arith
 
-cast-sum : tie.Need-cast-sum Inv-loop μ-loop
-cast-sum c = rw (c .shifted .ensures, c .before .value .ensures) (omega (arith, c .before .before .before .before .before .before .pre .small _ (c .before .before .loop-test .taken)))
+mul-add : tie.Need-mul-add Inv-loop μ-loop
+mul-add c = omega arith
 
-mul-sum : tie.Need-mul-sum Inv-loop μ-loop
-mul-sum c = omega arith
+shared-slice-read-add : tie.Need-shared-slice-read-add Inv-loop μ-loop
+shared-slice-read-add c = omega arith
 
-shared-slice-read-sum : tie.Need-shared-slice-read-sum Inv-loop μ-loop
-shared-slice-read-sum c = omega arith
+mul-add-2 : tie.Need-mul-add-2 Inv-loop μ-loop
+mul-add-2 c = record { fits = product-below 32 (omega arith) (omega arith) }
 
-mul-sum-2 : tie.Need-mul-sum-2 Inv-loop μ-loop
-mul-sum-2 c = rw (c .before .shifted .ensures, c .before .before .value .ensures, word-is (c .before .before .before .before .before .before .before .pre .vector) (c .before .before .before .loop-test .taken)) (omega (arith, narrow-fits (c .before .before .before .before .before .before .before .pre .vector) (c .before .before .before .loop-test .taken) (λ i. shiftedEntry (c .before .before .before .before .before .before .before .args .records .now) (c .before .before .before .before .before .before .before .args .bound) (c .before .before .before .before .before .before .before .args .start + i)) (c .before .before .before .before .before .before .before .pre .small)))
-
-add-sum : tie.Need-add-sum Inv-loop μ-loop
-add-sum c = rw (c .before .shifted .ensures, c .before .before .value .ensures, word-is (c .before .before .before .before .before .before .before .pre .vector) (c .before .before .before .loop-test .taken)) (omega (arith, c .before .before .before .before .loop .inv .1, c .before .before .before .before .before .before .before .pre .offset-is, offset-small (c .before .before .before .before .before .before .before .args .bound) (length (c .before .before .before .before .before .before .before .args .vector .now)) (λ i. getD (c .before .before .before .before .before .before .before .args .vector .now) i 0), narrow-fits (c .before .before .before .before .before .before .before .pre .vector) (c .before .before .before .loop-test .taken) (λ i. shiftedEntry (c .before .before .before .before .before .before .before .args .records .now) (c .before .before .before .before .before .before .before .args .bound) (c .before .before .before .before .before .before .before .args .start + i)) (c .before .before .before .before .before .before .before .pre .small)))
+add-requires : tie.Need-add-requires Inv-loop μ-loop
+add-requires c κs = search needs
 
 add-j : tie.Need-add-j Inv-loop μ-loop
 add-j c = omega arith
@@ -51,13 +51,25 @@ loop-less : tie.Need-loop-less Inv-loop μ-loop
 loop-less c = omega arith
 
 loop-again : tie.Need-loop-again Inv-loop μ-loop
-loop-again c = (omega arith, reached-more _ (shiftedTerms (c .before .before .before .before .before .before .before .args .records .now) (c .before .before .before .before .before .before .before .args .start) (c .before .before .before .before .before .before .before .args .bound) (c .before .before .before .before .before .before .before .args .vector .now)) (c .before .before .before .before .loop .inv .1) (rw (c .before .shifted .ensures, c .before .before .value .ensures, word-is (c .before .before .before .before .before .before .before .pre .vector) (c .before .before .before .loop-test .taken))))
+loop-again c =
+    let j = c .before .before .before .before .loop .j in
+    let x = c .before .before .before .before .before .before .before .before .args .vector .now in
+    let v = c .before .before .value .result in
+    let x-is : getD x j 0 % 2 ^ 32 ≡ getD x j 0 = word-is (c .before .before .before .before .before .before .before .before .pre .vector) (c .before .before .before .loop-test .taken) in
+    let fits : v * (getD x j 0 % 2 ^ 32) < 2 ^ 64 = product-below 32 (omega arith) (omega arith) in (
+      omega arith,
+      holds-more (omega (arith, c .before .before .before .before .before .before .before .before .pre .vector .short)) fits (rw (x-is, c .before .before .value .ensures)) (c .before .before .before .before .loop .inv .1) (c .add .ensures),
+    )
 
-reduce-requires : tie.Need-reduce-requires Inv-loop μ-loop
-reduce-requires c κs = search needs
+residue-requires : tie.Need-residue-requires Inv-loop μ-loop
+residue-requires c κs = search needs
 
 returns : tie.Need-returns Inv-loop μ-loop
-returns c = c .reduce .ensures ∙ residue-of-natural modulus modulus-positive _ ∙ ap (λ n. n % modulus) (reached-all _ (shiftedTerms (c .before .before .before .before .before .args .records .now) (c .before .before .before .before .before .args .start) (c .before .before .before .before .before .args .bound) (c .before .before .before .before .before .args .vector .now)) (length (c .before .before .before .before .before .args .vector .now)) (c .before .before .loop .inv .1) (omega arith) (omega arith)) ∙ records-dot (c .before .before .before .before .before .pre)
+unfolding dotOf
+returns c =
+    let a = c .before .before .before .before .before .before .args in
+    c .residue .ensures ∙ residue-of-natural modulus modulus-positive _
+    ∙ ap (λ n. n % modulus) (holds-exact (c .before .before .loop .inv .1) ∙ ap (λ n. sum n (terms (a .records .now) (a .start) (a .vector .now))) (omega arith))
 
 pub dot-records-spec : {M : Type 1} → statement M
 dot-records-spec =
@@ -65,17 +77,17 @@ dot-records-spec =
     (tie.spec
     Inv-loop
     μ-loop
+    new-requires
     loop-holds
     add-value
     value-requires
-    shifted-requires
-    cast-sum
-    mul-sum
-    shared-slice-read-sum
-    mul-sum-2
-    add-sum
+    cast-add
+    mul-add
+    shared-slice-read-add
+    mul-add-2
+    add-requires
     add-j
     loop-less
     loop-again
-    reduce-requires
+    residue-requires
     returns)

@@ -9,22 +9,19 @@ use Rattle.challenge.proofs.products.product.Statement.{statement}
 use Rattle.challenge.proofs.products.product.Tie as tie
 
 abbrev Inv-loop : tie.InvT-loop
-Inv-loop matrix rows vector bound offset u₀ k₀ u k = (k ≤ rows) × Product matrix k vector u
+Inv-loop matrix rows vector u₀ k₀ u k = (k ≤ rows) × Product matrix k vector u
 
 abbrev μ-loop : tie.MeasureT-loop
-μ-loop matrix rows vector bound offset u₀ k₀ u k = rows - k
-
-offset-requires : tie.Need-offset-requires Inv-loop μ-loop
-offset-requires c κs = (c .before .before .pre .vector, c .before .before .pre .shift-below)
+μ-loop matrix rows vector u₀ k₀ u k = rows - k
 
 loop-holds : tie.Need-loop-holds Inv-loop μ-loop
 loop-holds c = (omega arith, filled-none _ _ _ refl)
 
 mul-start : tie.Need-mul-start Inv-loop μ-loop
-mul-start c = omega (arith, row-inside (length (c .before .before .before .before .before .args .vector .now)) (c .loop-test .taken), c .before .before .before .before .before .pre .long)
+mul-start c = omega (arith, row-inside (length (c .before .before .before .before .args .vector .now)) (c .loop-test .taken), c .before .before .before .before .pre .long)
 
 dot-records-requires : tie.Need-dot-records-requires Inv-loop μ-loop
-dot-records-requires c κs = records-ready (c .before .before .before .before .before .pre) (c .before .before .offset .ensures) (c .loop-test .taken)
+dot-records-requires c κs = records-ready (c .before .before .before .before .pre) (c .loop-test .taken)
 
 cast-u : tie.Need-cast-u Inv-loop μ-loop
 cast-u c = omega arith
@@ -33,7 +30,7 @@ mul-u : tie.Need-mul-u Inv-loop μ-loop
 mul-u c = omega arith
 
 array-write-u : tie.Need-array-write-u Inv-loop μ-loop
-array-write-u c = omega (arith, c .before .before .before .before .before .before .pre .few, c .before .before .loop .inv .1 .long)
+array-write-u c = omega (arith, c .before .before .before .before .before .pre .few, c .before .before .loop .inv .1 .long)
 
 add-k : tie.Need-add-k Inv-loop μ-loop
 add-k c = omega arith
@@ -42,7 +39,7 @@ loop-less : tie.Need-loop-less Inv-loop μ-loop
 loop-less c = omega arith
 
 loop-again : tie.Need-loop-again Inv-loop μ-loop
-loop-again c = (omega arith, filled-more _ _ _ (omega (arith, c .before .before .before .before .before .before .pre .few)) (c .before .before .loop .inv .1) (c .dot-records .ensures))
+loop-again c = (omega arith, filled-more _ _ _ (omega (arith, c .before .before .before .before .before .pre .few)) (c .before .before .loop .inv .1) (c .dot-records .ensures))
 
 returns : tie.Need-returns Inv-loop μ-loop
 returns c = let filled = c .before .loop .inv .1 in record { long = filled .long; each = λ k l. filled .each k (omega arith) }
@@ -53,7 +50,6 @@ product-spec =
     (tie.spec
     Inv-loop
     μ-loop
-    offset-requires
     loop-holds
     mul-start
     dot-records-requires
