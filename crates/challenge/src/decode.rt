@@ -1,6 +1,6 @@
 // What is read from the ticket once, for all vectors: the entries of A and the claims, each shifted so that none is negative.
 ghost use mathlib.Core.Path.{_≡_};
-ghost use Prim.Native.Nat.{_+_, _*_, _%_, _<_, _≤_, _^_};
+ghost use Prim.Native.Nat.{_+_, _*_, _%_, _≤_};
 ghost use lib.ListN.{length};
 ghost use Rattle.residue.specs.Rules.{modulus};
 ghost use Rattle.ticket.specs.Rules.{recordBytes, valueAt};
@@ -12,7 +12,7 @@ use ticket::word;
 // 2^31, which is p + 1.
 const WRAP: u32 = 2_147_483_648;
 
-// 2^30, above the values that stand for no negative number.
+// 2^30. The values from there on stand for negative numbers.
 const TOP: u32 = 1_073_741_824;
 
 // The entries of the first records, each with the bound added, so that they are from 0 to twice the bound.
@@ -47,7 +47,8 @@ pub(crate) fn lifted_claims(
     }
 }
 
-// A value with a shift added, modulo p, where the result is below 2^30: a value from 2^30 on passes p, and 1 more passes 2^31.
+// A value with a shift added, modulo p, where that is below 2^30: then a value from 2^30 on comes to p or more with the shift, and to
+// 2^31 or more with the shift and 1.
 pub(crate) fn shifted(value: u32, shift: u32) -> u32
     requires { ⌜ Shiftable shift value ⌝ }
     ensures { λ r. ⌜ r ≡ (value + shift) % modulus ⌝ }

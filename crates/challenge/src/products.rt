@@ -1,6 +1,6 @@
 // Products with a vector, modulo p.
 ghost use mathlib.Core.Path.{_≡_};
-ghost use Prim.Native.Nat.{_+_, _-_, _*_, _%_, _<_, _≤_, _^_};
+ghost use Prim.Native.Nat.{_<_, _≤_};
 ghost use lib.ListN.{length, getD};
 ghost use Rattle.residue.specs.Rules.{modulus, sum};
 ghost use Rattle.ticket.specs.Laws.Fills.{Filled};
@@ -9,7 +9,6 @@ ghost use Rattle.challenge.specs.Laws.Products.{dotOf, dotWith, offsetOf
 use crate::decode::value;
 use residue::ProductSum;
 use residue::Residue;
-use ticket::RECORD;
 use ticket::Setting;
 
 // The most rows that a matrix has here: B has as many as A has columns.
@@ -43,11 +42,11 @@ fn dot_records(records: &[u8], start: usize, vector: &[u64]) -> u32
     ensures { λ r. ⌜ r ≡ dotOf (now (records .entry)) start (now (vector .entry)) ⌝ }
 {
     let mut sum = ProductSum::new();
-    let mut j = 0;
-    while j < vector.len() {
-        let value = value(records, start + j);
-        sum = sum.add((value as u64) * (vector[j] % WORD));
-        j += 1;
+    let mut r = 0;
+    while r < vector.len() {
+        let value = value(records, start + r);
+        sum = sum.add((value as u64) * (vector[r] % WORD));
+        r += 1;
     }
     sum.residue().0
 }
@@ -58,10 +57,10 @@ pub(crate) fn dot(list: &[u32], vector: &[u64], offset: u64) -> u32
     ensures { λ r. ⌜ r ≡ dotWith offset (now (list .entry)) (now (vector .entry)) ⌝ }
 {
     let mut sum = offset;
-    let mut j = 0;
-    while j < vector.len() {
-        sum += (list[j] as u64) * (vector[j] % WORD);
-        j += 1;
+    let mut i = 0;
+    while i < vector.len() {
+        sum += (list[i] as u64) * (vector[i] % WORD);
+        i += 1;
     }
     Residue::reduce(sum).0
 }
@@ -72,10 +71,10 @@ pub(crate) fn wide_dot(list: &[u32], vector: &[u64], offset: u64) -> u32
     ensures { λ r. ⌜ r ≡ dotWith offset (now (list .entry)) (now (vector .entry)) ⌝ }
 {
     let mut sum = ProductSum::new();
-    let mut j = 0;
-    while j < vector.len() {
-        sum = sum.add((list[j] as u64) * (vector[j] % WORD));
-        j += 1;
+    let mut c = 0;
+    while c < vector.len() {
+        sum = sum.add((list[c] as u64) * (vector[c] % WORD));
+        c += 1;
     }
     sum.add(offset).residue().0
 }

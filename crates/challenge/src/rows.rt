@@ -1,12 +1,12 @@
 // Test 12: every row, for every vector.
 ghost use mathlib.Core.Path.{_≡_};
-ghost use Prim.Native.Nat.{_+_, _≤_, _*_};
+ghost use Prim.Native.Nat.{_+_};
 ghost use lib.Dec.{eqb};
 ghost use lib.ListN.{length};
 ghost use Rattle.challenge.specs.Rules.{verdict};
 ghost use Rattle.challenge.specs.Laws.Products.{dotWith};
 ghost use Rattle.challenge.specs.Laws.Rows.{agrees, Decoded, RowReady, RowsReady};
-ghost use Rattle.challenge.specs.Laws.Vectors.{rowAnswer, rowsAnswer, vectorAnswer, ListReady, VectorReady};
+ghost use Rattle.challenge.specs.Laws.Vectors.{rowAnswer, rowsAnswer, vectorAnswer, DecodeReady, ListReady, VectorReady};
 use crate::decode::lifted_claims;
 use crate::decode::shifted_entries;
 use crate::products::dot;
@@ -54,7 +54,7 @@ fn check_decoded(
     a: &mut [u32],
     w: &mut [u32],
 ) -> Answer
-    requires { ⌜ ListReady setting (now ticket) (now list) × (setting .rows * setting .inner ≤ length (now a)) × (setting .rows * setting .columns ≤ length (now w)) ⌝ }
+    requires { ⌜ DecodeReady setting (now ticket) (now list) (length (now a)) (length (now w)) ⌝ }
     ensures { λ r. ⌜ r ≡ verdict setting (now (ticket .entry)) (now (list .entry)) ⌝ }
 {
     let entries = (setting.rows * setting.inner) as usize;

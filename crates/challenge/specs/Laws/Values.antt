@@ -24,7 +24,7 @@ use Rattle.ticket.specs.Laws.Differences.{small-remainder}
 use Rattle.ticket.specs.Laws.Fills.{Filled}
 use Rattle.ticket.specs.Laws.Forms.{from, rest, from-long}
 use Rattle.ticket.specs.Laws.Layout.{value-of-part}
-use Rattle.ticket.specs.Laws.Lifts.{lift, lift-by-half}
+use Rattle.ticket.specs.Laws.Lifts.{lift-by-half}
 use Rattle.ticket.specs.Laws.Limits.{Half, half-of}
 use Rattle.ticket.specs.Laws.Parts.{tests-A, tests-quotients, addedLength}
 use Rattle.ticket.specs.Laws.Passes.{Passed, Valid, valid-A, valid-quotient}

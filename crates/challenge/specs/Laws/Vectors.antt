@@ -8,6 +8,7 @@
 --   rows-cong              the same by equal tests
 --   vectorAnswer G t x τ q the answer of all rows for the vector x, with the products of u counted
 --   ListReady G t x        the vectors of the list x can be worked through
+--   DecodeReady G t x n k  so they can with lists of n and of k numbers for A and the claims
 --   VectorReady G t x q    the vector x can be worked through after q products
 --   widened-same           the vector in 64-bit numbers is the same list
 --   matrix-ready           the slice from B on holds B
@@ -97,6 +98,11 @@ pub record ListReady (G : Setting) (t x : List ℕ) : Type 0 where
   pub long : length t ≡ addedLength G
   pub size : length x ≡ G .vectors * G .columns
   pub below : (k : ℕ) → k < G .vectors * G .columns → getD x k 0 < modulus
+
+pub record DecodeReady (G : Setting) (t x : List ℕ) (entries claims : ℕ) : Type 0 where
+  pub list : ListReady G t x
+  pub entries-fit : G .rows * G .inner ≤ entries
+  pub claims-fit : G .rows * G .columns ≤ claims
 
 module _ {G : Setting} {t x : List ℕ} {products : ℕ} (ready : VectorReady G t x products) where
   pub widened-same : {wide : List ℕ} → Filled 0 mostColumns (length x) (λ j. getD x j 0) wide → take (G .columns) wide ≡ x

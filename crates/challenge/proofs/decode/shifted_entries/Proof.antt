@@ -1,8 +1,7 @@
 use Prim.Native.Nat.{_-_, _≤_}
 use native.Mathlib.Omega.{arith}
-use mathlib.Core.Path.{refl, _∙_, ap}
+use mathlib.Core.Path.{refl}
 use lib.ListN.{length}
-use Rattle.residue.specs.Rules.{modulus}
 use Rattle.ticket.specs.Laws.Fills.{Filled, filled-none, filled-more}
 use Rattle.challenge.specs.Laws.Decodes.{shiftedEntry}
 use Rattle.challenge.proofs.decode.shifted_entries.Statement.{statement}

@@ -1,4 +1,4 @@
-use Prim.Native.Nat.{_+_, _-_, _*_, _%_, _≤_}
+use Prim.Native.Nat.{_-_, _*_, _%_, _≤_}
 use native.Mathlib.Omega.{arith}
 use borrow.Author.Needs.{needs}
 use mathlib.Core.Path.{ap, _∙_}
@@ -11,10 +11,10 @@ use Rattle.challenge.proofs.products.dot.Statement.{statement}
 use Rattle.challenge.proofs.products.dot.Tie as tie
 
 abbrev Inv-loop : tie.InvT-loop
-Inv-loop list vector offset s₀ j₀ s j = (j ≤ length vector) × Reached offset (λ i. getD list i 0 * getD vector i 0) j s
+Inv-loop list vector offset s₀ i₀ s i = (i ≤ length vector) × Reached offset (λ k. getD list k 0 * getD vector k 0) i s
 
 abbrev μ-loop : tie.MeasureT-loop
-μ-loop list vector offset s₀ j₀ s j = length vector - j
+μ-loop list vector offset s₀ i₀ s i = length vector - i
 
 loop-holds : tie.Need-loop-holds Inv-loop μ-loop
 loop-holds c = (omega arith, reached-none _ _)
@@ -26,7 +26,7 @@ shared-slice-read-sum : tie.Need-shared-slice-read-sum Inv-loop μ-loop
 shared-slice-read-sum c = omega (arith, c .before .before .before .before .before .pre .long)
 
 cast-sum : tie.Need-cast-sum Inv-loop μ-loop
-cast-sum c = omega (arith, c .shared-slice-known3 .given (c .before .before .loop .j))
+cast-sum c = omega (arith, c .shared-slice-known3 .given (c .before .before .loop .i))
 
 mul-sum-2 : tie.Need-mul-sum-2 Inv-loop μ-loop
 mul-sum-2 c = omega arith
@@ -40,8 +40,8 @@ mul-sum-3 c = rw (word-is (c .before .before .before .before .before .before .pr
 add-sum : tie.Need-add-sum Inv-loop μ-loop
 add-sum c = rw (word-is (c .before .before .before .before .before .before .pre .vector) (c .before .before .loop-test .taken)) (omega (arith, c .before .before .before .loop .inv .1, c .before .before .before .before .before .before .pre .offset-small, narrow-fits (c .before .before .before .before .before .before .pre .vector) (c .before .before .loop-test .taken) (λ i. getD (c .before .before .before .before .before .before .args .list .now) i 0) (c .before .before .before .before .before .before .pre .small)))
 
-add-j : tie.Need-add-j Inv-loop μ-loop
-add-j c = omega arith
+add-i : tie.Need-add-i Inv-loop μ-loop
+add-i c = omega arith
 
 loop-less : tie.Need-loop-less Inv-loop μ-loop
 loop-less c = omega arith
@@ -70,7 +70,7 @@ dot-spec =
     shared-slice-read-sum-2
     mul-sum-3
     add-sum
-    add-j
+    add-i
     loop-less
     loop-again
     reduce-requires

@@ -1,7 +1,7 @@
-use Prim.Native.Nat.{_+_, _-_, _*_, _%_, _^_, _≤_, _<_}
+use Prim.Native.Nat.{_-_, _*_, _%_, _^_, _≤_, _<_}
 use native.Mathlib.Omega.{arith}
 use borrow.Author.Needs.{needs}
-use mathlib.Core.Path.{_≡_, sym, ap, _∙_}
+use mathlib.Core.Path.{_≡_, ap, _∙_}
 use lib.ListN.{length, getD}
 use Rattle.residue.specs.Rules.{modulus, sum}
 use Rattle.residue.specs.Laws.Modulus.{modulus-positive}
@@ -12,10 +12,10 @@ use Rattle.challenge.proofs.products.dot_records.Statement.{statement}
 use Rattle.challenge.proofs.products.dot_records.Tie as tie
 
 abbrev Inv-loop : tie.InvT-loop
-Inv-loop records start vector s₀ j₀ s j = (j ≤ length vector) × Holds j (terms records start vector) (s .low) (s .high)
+Inv-loop records start vector s₀ r₀ s r = (r ≤ length vector) × Holds r (terms records start vector) (s .low) (s .high)
 
 abbrev μ-loop : tie.MeasureT-loop
-μ-loop records start vector s₀ j₀ s j = length vector - j
+μ-loop records start vector s₀ r₀ s r = length vector - r
 
 new-requires : tie.Need-new-requires Inv-loop μ-loop
 new-requires c κs = search needs
@@ -44,19 +44,19 @@ mul-add-2 c = record { fits = product-below 32 (omega arith) (omega arith) }
 add-requires : tie.Need-add-requires Inv-loop μ-loop
 add-requires c κs = search needs
 
-add-j : tie.Need-add-j Inv-loop μ-loop
-add-j c = omega arith
+add-r : tie.Need-add-r Inv-loop μ-loop
+add-r c = omega arith
 
 loop-less : tie.Need-loop-less Inv-loop μ-loop
 loop-less c = omega arith
 
 loop-again : tie.Need-loop-again Inv-loop μ-loop
 loop-again c =
-    let j = c .before .before .before .before .loop .j in
+    let r = c .before .before .before .before .loop .r in
     let x = c .before .before .before .before .before .before .before .before .args .vector .now in
     let v = c .before .before .value .result in
-    let x-is : getD x j 0 % 2 ^ 32 ≡ getD x j 0 = word-is (c .before .before .before .before .before .before .before .before .pre .vector) (c .before .before .before .loop-test .taken) in
-    let fits : v * (getD x j 0 % 2 ^ 32) < 2 ^ 64 = product-below 32 (omega arith) (omega arith) in (
+    let x-is : getD x r 0 % 2 ^ 32 ≡ getD x r 0 = word-is (c .before .before .before .before .before .before .before .before .pre .vector) (c .before .before .before .loop-test .taken) in
+    let fits : v * (getD x r 0 % 2 ^ 32) < 2 ^ 64 = product-below 32 (omega arith) (omega arith) in (
       omega arith,
       holds-more (omega (arith, c .before .before .before .before .before .before .before .before .pre .vector .short)) fits (rw (x-is, c .before .before .value .ensures)) (c .before .before .before .before .loop .inv .1) (c .add .ensures),
     )
@@ -86,7 +86,7 @@ dot-records-spec =
     shared-slice-read-add
     mul-add-2
     add-requires
-    add-j
+    add-r
     loop-less
     loop-again
     residue-requires

@@ -13,10 +13,10 @@ use Rattle.challenge.proofs.products.wide_dot.Statement.{statement}
 use Rattle.challenge.proofs.products.wide_dot.Tie as tie
 
 abbrev Inv-loop : tie.InvT-loop
-Inv-loop list vector offset s₀ j₀ s j = (j ≤ length vector) × Holds j (λ i. getD list i 0 * getD vector i 0) (s .low) (s .high)
+Inv-loop list vector offset s₀ c₀ s c = (c ≤ length vector) × Holds c (λ i. getD list i 0 * getD vector i 0) (s .low) (s .high)
 
 abbrev μ-loop : tie.MeasureT-loop
-μ-loop list vector offset s₀ j₀ s j = length vector - j
+μ-loop list vector offset s₀ c₀ s c = length vector - c
 
 new-requires : tie.Need-new-requires Inv-loop μ-loop
 new-requires c κs = search needs
@@ -31,7 +31,7 @@ shared-slice-read-add : tie.Need-shared-slice-read-add Inv-loop μ-loop
 shared-slice-read-add c = omega (arith, c .before .before .before .before .before .before .pre .long)
 
 cast-add : tie.Need-cast-add Inv-loop μ-loop
-cast-add c = omega (arith, c .shared-slice-known3 .given (c .before .before .loop .j))
+cast-add c = omega (arith, c .shared-slice-known3 .given (c .before .before .loop .c))
 
 mul-add-2 : tie.Need-mul-add-2 Inv-loop μ-loop
 mul-add-2 c = omega arith
@@ -40,25 +40,25 @@ shared-slice-read-add-2 : tie.Need-shared-slice-read-add-2 Inv-loop μ-loop
 shared-slice-read-add-2 c = omega arith
 
 mul-add-3 : tie.Need-mul-add-3 Inv-loop μ-loop
-mul-add-3 c = record { fits = product-below 32 (omega (arith, c .before .shared-slice-known3 .given (c .before .before .before .loop .j))) (omega arith) }
+mul-add-3 c = record { fits = product-below 32 (omega (arith, c .before .shared-slice-known3 .given (c .before .before .before .loop .c))) (omega arith) }
 
 add-requires : tie.Need-add-requires Inv-loop μ-loop
 add-requires c κs = search needs
 
-add-j : tie.Need-add-j Inv-loop μ-loop
-add-j c = omega arith
+add-c : tie.Need-add-c Inv-loop μ-loop
+add-c c = omega arith
 
 loop-less : tie.Need-loop-less Inv-loop μ-loop
 loop-less c = omega arith
 
 loop-again : tie.Need-loop-again Inv-loop μ-loop
 loop-again c =
-    let j = c .before .before .before .before .loop .j in
+    let k = c .before .before .before .before .loop .c in
     let a = c .before .before .before .before .before .before .before .before .args in
-    let x-is : getD (a .vector .now) j 0 % 2 ^ 32 ≡ getD (a .vector .now) j 0 = word-is (c .before .before .before .before .before .before .before .before .pre .vector) (c .before .before .before .loop-test .taken) in
-    let fits : getD (a .list .now) j 0 * (getD (a .vector .now) j 0 % 2 ^ 32) < 2 ^ 64 = product-below 32 (omega (arith, c .before .before .shared-slice-known3 .given j)) (omega arith) in (
+    let x-is : getD (a .vector .now) k 0 % 2 ^ 32 ≡ getD (a .vector .now) k 0 = word-is (c .before .before .before .before .before .before .before .before .pre .vector) (c .before .before .before .loop-test .taken) in
+    let fits : getD (a .list .now) k 0 * (getD (a .vector .now) k 0 % 2 ^ 32) < 2 ^ 64 = product-below 32 (omega (arith, c .before .before .shared-slice-known3 .given k)) (omega arith) in (
       omega arith,
-      holds-more (omega (arith, c .before .before .before .before .before .before .before .before .pre .vector .short)) fits (ap (λ n. getD (a .list .now) j 0 * n) (sym x-is)) (c .before .before .before .before .loop .inv .1) (c .add .ensures),
+      holds-more (omega (arith, c .before .before .before .before .before .before .before .before .pre .vector .short)) fits (ap (λ n. getD (a .list .now) k 0 * n) (sym x-is)) (c .before .before .before .before .loop .inv .1) (c .add .ensures),
     )
 
 add-requires-2 : tie.Need-add-requires-2 Inv-loop μ-loop
@@ -91,7 +91,7 @@ wide-dot-spec =
     shared-slice-read-add-2
     mul-add-3
     add-requires
-    add-j
+    add-c
     loop-less
     loop-again
     add-requires-2

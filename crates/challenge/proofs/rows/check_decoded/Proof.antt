@@ -43,7 +43,7 @@ power-of-two-requires : tie.Need-power-of-two-requires
 power-of-two-requires c κs = search needs
 
 shifted-entries-requires : tie.Need-shifted-entries-requires
-shifted-entries-requires c κs = entries-ready (c .before .before .before .before .before .before .before .before .before .before .pre .0 .passed) (c .before .before .before .before .before .before .before .before .before .before .pre .0 .long) (c .before .before .before .before .before .before .before .before .before .before .pre .1)
+shifted-entries-requires c κs = entries-ready (c .before .before .before .before .before .before .before .before .before .before .pre .list .passed) (c .before .before .before .before .before .before .before .before .before .before .pre .list .long) (c .before .before .before .before .before .before .before .before .before .before .pre .entries-fit)
 
 sub-lifted-claims : tie.Need-sub-lifted-claims
 sub-lifted-claims c = search needs
@@ -64,13 +64,13 @@ part-lifted-claims-end-2 : tie.Need-part-lifted-claims-end-2
 part-lifted-claims-end-2 c = search needs
 
 lifted-claims-requires : tie.Need-lifted-claims-requires
-lifted-claims-requires c κs = claims-ready (c .before .before .before .before .before .before .before .before .before .before .before .before .before .before .before .before .pre .0 .passed) (c .before .before .before .before .before .before .before .before .before .before .before .before .before .before .before .before .pre .0 .long) (c .before .before .before .before .before .before .before .power-of-two .ensures) (c .before .before .before .before .before .before .before .before .before .before .before .before .before .before .before .before .pre .2)
+lifted-claims-requires c κs = claims-ready (c .before .before .before .before .before .before .before .before .before .before .before .before .before .before .before .before .pre .list .passed) (c .before .before .before .before .before .before .before .before .before .before .before .before .before .before .before .before .pre .list .long) (c .before .before .before .before .before .before .before .power-of-two .ensures) (c .before .before .before .before .before .before .before .before .before .before .before .before .before .before .before .before .pre .claims-fit)
 
 mul-check-vectors : tie.Need-mul-check-vectors
-mul-check-vectors c = omega (arith, lift-by-half (c .before .before .before .before .before .before .before .before .before .before .before .before .before .before .before .before .before .before .before .before .before .before .pre .0 .passed .numbers) (c .before .before .before .before .before .before .before .before .before .before .before .before .before .before .before .before .before .before .before .before .before .before .pre .0 .passed .fitted) (c .before .before .before .before .before .before .before .before .before .before .before .before .before .power-of-two .ensures), lift-small (c .before .before .before .before .before .before .before .before .before .before .before .before .before .before .before .before .before .before .before .before .before .before .pre .0 .passed .numbers) (c .before .before .before .before .before .before .before .before .before .before .before .before .before .before .before .before .before .before .before .before .before .before .pre .0 .passed .fitted), modulus-is)
+mul-check-vectors c = omega (arith, lift-by-half (c .before .before .before .before .before .before .before .before .before .before .before .before .before .before .before .before .before .before .before .before .before .before .pre .list .passed .numbers) (c .before .before .before .before .before .before .before .before .before .before .before .before .before .before .before .before .before .before .before .before .before .before .pre .list .passed .fitted) (c .before .before .before .before .before .before .before .before .before .before .before .before .before .power-of-two .ensures), lift-small (c .before .before .before .before .before .before .before .before .before .before .before .before .before .before .before .before .before .before .before .before .before .before .pre .list .passed .numbers) (c .before .before .before .before .before .before .before .before .before .before .before .before .before .before .before .before .before .before .before .before .before .before .pre .list .passed .fitted), modulus-is)
 
 check-vectors-requires : tie.Need-check-vectors-requires
-check-vectors-requires c κs = (c .before .before .before .before .before .before .before .before .before .before .before .before .before .before .before .before .before .before .before .before .before .before .pre .0, decoded-by (c .before .before .before .before .before .before .before .before .before .before .before .before .before .before .before .before .before .before .before .before .before .before .pre .0 .passed) (c .before .before .before .before .before .before .before .before .before .before .before .before .before .before .before .before .before .before .before .before .before .before .pre .0 .long) (c .before .before .before .before .before .before .before .before .before .before .before .before .before .power-of-two .ensures) (c .before .before .before .before .before .before .before .before .before .before .before .before .before .before .before .before .before .before .before .before .before .before .pre .1) (c .before .before .before .before .before .before .before .before .before .before .before .before .before .before .before .before .before .before .before .before .before .before .pre .2) (c .before .before .before .before .before .before .before .before .before .before .before .shifted-entries .ensures) (c .before .before .before .before .before .lifted-claims .ensures))
+check-vectors-requires c κs = (c .before .before .before .before .before .before .before .before .before .before .before .before .before .before .before .before .before .before .before .before .before .before .pre .list, decoded-by (c .before .before .before .before .before .before .before .before .before .before .before .before .before .before .before .before .before .before .before .before .before .before .pre .list .passed) (c .before .before .before .before .before .before .before .before .before .before .before .before .before .before .before .before .before .before .before .before .before .before .pre .list .long) (c .before .before .before .before .before .before .before .before .before .before .before .before .before .power-of-two .ensures) (c .before .before .before .before .before .before .before .before .before .before .before .before .before .before .before .before .before .before .before .before .before .before .pre .entries-fit) (c .before .before .before .before .before .before .before .before .before .before .before .before .before .before .before .before .before .before .before .before .before .before .pre .claims-fit) (c .before .before .before .before .before .before .before .before .before .before .before .shifted-entries .ensures) (c .before .before .before .before .before .lifted-claims .ensures))
 
 same-length : tie.Need-same-length
 same-length c = search needs
