@@ -6,10 +6,11 @@
 --   operands-by-values row i of A times u
 --   Decoded G t a w l  a holds the entries of A with the bound added, w the claims with l added
 --   agrees G a w l x u i   row i of w times x, with l taken off, is row i of a times u, with the bound taken off
---   agrees-by          the same by the offsets
 --   agrees-balanced    that is, the two sides of row i are equal
 --   RowsReady G a w l x u q   the rows can be worked through for the vector x and its product u with B, after q products
---   RowReady a w x u o q      so can one row
+--   rows-inside        each row is within a and w
+--   agrees-by          the test of a row, by the offsets as the code makes them
+--   RowReady a w x u o q      one row can be worked through
 use Prim.Native.Nat.{ℕ, _+_, _-_, _*_, _/_, _%_, _≤_, _<_, _^_}
 use native.Mathlib.Nat.{mod-add-mod, mod-mod, mod-eq-of-lt, div-add-mod}
 use native.Mathlib.Omega.{arith}
@@ -32,6 +33,7 @@ use Rattle.ticket.specs.Laws.Fills.{lineOf, part-of}
 use Rattle.ticket.specs.Laws.Lifts.{lift, lift-small}
 use Rattle.ticket.specs.Laws.Limits.{Counts}
 use Rattle.ticket.specs.Laws.Passes.{Passed}
+use Rattle.ticket.specs.Laws.Positions.{row-inside}
 use Rattle.challenge.specs.Rules.{balanced, claimSide, operandSide, productB}
 use Rattle.challenge.specs.Laws.Products.{dotWith, offsetOf, Vector, DotReady, WideReady}
 use Rattle.challenge.specs.Laws.Shifts.{shift-off}
@@ -100,13 +102,6 @@ agrees G a w lifted x u i =
     eqb (dotWith (offsetOf lifted x) (lineOf w (G .columns) i) x)
     (dotWith (offsetOf (G .bound) u) (lineOf a (G .inner) i) u)
 
-pub agrees-by : (G : Setting) (a w : List ℕ) (lifted : ℕ) (x u : List ℕ) (i : ℕ) {left right : ℕ} → left ≡ offsetOf lifted x
-    → right ≡ offsetOf (G .bound) u
-    → eqb (dotWith left (lineOf w (G .columns) i) x) (dotWith right (lineOf a (G .inner) i) u) ≡ agrees G a w lifted x u i
-agrees-by G a w lifted x u i {left} {right} l r =
-    ap (λ o. eqb (dotWith o (lineOf w (G .columns) i) x) (dotWith right (lineOf a (G .inner) i) u)) l
-    ∙ ap (λ o. eqb (dotWith (offsetOf lifted x) (lineOf w (G .columns) i) x) (dotWith o (lineOf a (G .inner) i) u)) r
-
 -- x is a list of one vector, number 0
 module _ {G : Setting} {t : List ℕ} (passed : Passed G t) {a w : List ℕ} {lifted : ℕ} (decoded : Decoded G t a w lifted) (x u : List ℕ)
     (one : length x ≡ G .columns) (size : length u ≡ G .inner) (product : (k : ℕ) → k < G .inner → getD u k 0 ≡ productB G t x 0 k)
@@ -161,6 +156,18 @@ pub record RowsReady (G : Setting) (a w : List ℕ) (lifted : ℕ) (x u : List �
   pub long-claims : G .rows * G .columns ≤ length w
   pub small : (k : ℕ) → k < G .rows * G .inner → getD a k 0 < 2 ^ 16
   pub few : products < 2 ^ 30
+
+module _ {G : Setting} {a w : List ℕ} {lifted : ℕ} {x u : List ℕ} {products : ℕ} (ready : RowsReady G a w lifted x u products) where
+  pub rows-inside : {i : ℕ} → i < G .rows
+      → (i * G .inner + G .inner ≤ length a) × (i * G .columns + G .columns ≤ length w)
+  rows-inside l =
+      omega (arith, row-inside (G .inner) l, row-inside (G .columns) l, ready .long-A, ready .long-claims)
+
+  pub agrees-by : (i : ℕ) {left right : ℕ} → left ≡ offsetOf lifted x → right ≡ offsetOf (G .bound) u
+      → eqb (dotWith left (lineOf w (G .columns) i) x) (dotWith right (lineOf a (G .inner) i) u) ≡ agrees G a w lifted x u i
+  agrees-by i {left} {right} l r =
+      ap (λ o. eqb (dotWith o (lineOf w (G .columns) i) x) (dotWith right (lineOf a (G .inner) i) u)) l
+      ∙ ap (λ o. eqb (dotWith (offsetOf lifted x) (lineOf w (G .columns) i) x) (dotWith o (lineOf a (G .inner) i) u)) r
 
 pub record RowReady (a w x u : List ℕ) (offset products : ℕ) : Type 0 where
   pub operands : DotReady a u offset

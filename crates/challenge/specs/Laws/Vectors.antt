@@ -51,7 +51,7 @@ use Rattle.ticket.specs.Laws.Passes.{Passed}
 use Rattle.challenge.specs.Rules.{challengeAt, balanced, claimSide, operandSide, productB, firstRow, firstVector, vectorProducts, verdict}
 use Rattle.ticket.specs.Laws.Positions.{row-inside}
 use Rattle.challenge.specs.Laws.Products.{Vector, ProductReady, Product, dotOf, offsetOf, offset-small}
-use Rattle.challenge.specs.Laws.Rows.{Decoded, RowsReady, RowReady, agrees, agrees-balanced, product-by-values}
+use Rattle.challenge.specs.Laws.Rows.{Decoded, RowsReady, RowReady, agrees, agrees-balanced, product-by-values, rows-inside}
 use Rattle.challenge.specs.Laws.Values.{decoded-small}
 
 abbrev pub made : ℕ → Answer
@@ -207,47 +207,48 @@ module _ {G : Setting} {test : ℕ → Bool} {products i : ℕ} {a : Answer} (pa
   more : a .products + G .columns + G .inner ≡ products + (i + 1) * (G .columns + G .inner)
   more = omega (arith, ap (λ b. b .products) (passed .answer))
 
-  pub row-ready : {e w x u : List ℕ} {lifted offset : ℕ} → RowsReady G e w lifted x u products → offset ≡ offsetOf (G .bound) u
-      → i < G .rows → RowReady (lineOf e (G .inner) i) (lineOf w (G .columns) i) x u offset (a .products)
-  row-ready {e} {w} {x} {u} {lifted} {offset} ready offset-is l =
-      record {
-        operands =
-            record {
-              vector = ready .vector-u;
-              long = omega (arith, ready .size, part-long e (i * G .inner) (G .inner) (omega (arith, row-inside (G .inner) l, ready .long-A)));
-              small = λ k m.
-                  rw (part-of e (i * G .inner) (G .inner) k 0 (omega (arith, ready .size)))
-                  (ready .small (i * G .inner + k) (omega (arith, ready .size, row-inside (G .inner) l)));
-              offset-small = rw offset-is (offset-small (G .bound) (length u) (λ j. getD u j 0));
-            };
-        claims =
-            record {
-              vector = ready .vector-x;
-              long = omega (arith, ready .one, part-long w (i * G .columns) (G .columns) (omega (arith, row-inside (G .columns) l, ready .long-claims)));
-            };
-        few = omega (arith, more, row-inside (G .inner) l, row-inside (G .columns) l, ready .counts, ready .few);
-      }
-
-  module _ (x u : List ℕ) (one : length x ≡ G .columns) (size : length u ≡ G .inner) (l : i < G .rows) (τ : ℕ) {holds : Bool}
-      (same : holds ≡ test i) {b : Answer} (e : b ≡ rowAnswer holds τ i (a .products + length x + length u)) where
-    counted : a .products + length x + length u ≡ products + (i + 1) * (G .columns + G .inner)
-    counted = omega (arith, one, size, more)
-
-    pub rows-next : b .number ≡ 0 → RowsPassed G test products (i + 1) b
-    rows-next z =
-        let h = row-passed holds τ i (a .products + length x + length u) e z in
+  module _ {e w : List ℕ} {lifted : ℕ} {x u : List ℕ} (ready : RowsReady G e w lifted x u products) (l : i < G .rows) where
+    pub row-ready : {offset : ℕ} → offset ≡ offsetOf (G .bound) u
+        → RowReady (lineOf e (G .inner) i) (lineOf w (G .columns) i) x u offset (a .products)
+    row-ready offset-is =
+        let inside = rows-inside ready l in
         record {
-          within = omega arith;
-          before = λ k m. elim (ℕ-discrete k i) [ yes d ↦ ap test d ∙ sym same ∙ h .0 | no d ↦ passed .before k (omega arith) ];
-          answer = h .1 ∙ ap made counted;
+          operands =
+              record {
+                vector = ready .vector-u;
+                long = omega (arith, ready .size, part-long e (i * G .inner) (G .inner) (inside .0));
+                small = λ k m.
+                    rw (part-of e (i * G .inner) (G .inner) k 0 (omega (arith, ready .size)))
+                    (ready .small (i * G .inner + k) (omega (arith, ready .size, row-inside (G .inner) l)));
+                offset-small = rw offset-is (offset-small (G .bound) (length u) (λ j. getD u j 0));
+              };
+          claims =
+              record {
+                vector = ready .vector-x;
+                long = omega (arith, ready .one, part-long w (i * G .columns) (G .columns) (inside .1));
+              };
+          few = omega (arith, more, row-inside (G .inner) l, row-inside (G .columns) l, ready .counts, ready .few);
         }
 
-    pub rows-caught : (b .number ≡ 0 → ⊥) → b ≡ rowsAnswer G test τ products
-    unfolding rowsAnswer
-    rows-caught d =
-        let h = row-refused holds τ i (a .products + length x + length u) e d in
-        h .1 ∙ ap (caughtAt τ i) counted
-        ∙ sym (rw (first-is (G .rows) i test l (passed .before) (sym same ∙ h .0), ne-eqb i (G .rows) (λ n. omega arith)))
+    module _ (τ : ℕ) {holds : Bool} (same : holds ≡ test i) {b : Answer} (b-is : b ≡ rowAnswer holds τ i (a .products + length x + length u)) where
+      counted : a .products + length x + length u ≡ products + (i + 1) * (G .columns + G .inner)
+      counted = omega (arith, ready .one, ready .size, more)
+
+      pub rows-next : b .number ≡ 0 → RowsPassed G test products (i + 1) b
+      rows-next z =
+          let h = row-passed holds τ i (a .products + length x + length u) b-is z in
+          record {
+            within = omega arith;
+            before = λ k m. elim (ℕ-discrete k i) [ yes d ↦ ap test d ∙ sym same ∙ h .0 | no d ↦ passed .before k (omega arith) ];
+            answer = h .1 ∙ ap made counted;
+          }
+
+      pub rows-caught : (b .number ≡ 0 → ⊥) → b ≡ rowsAnswer G test τ products
+      unfolding rowsAnswer
+      rows-caught d =
+          let h = row-refused holds τ i (a .products + length x + length u) b-is d in
+          h .1 ∙ ap (caughtAt τ i) counted
+          ∙ sym (rw (first-is (G .rows) i test l (passed .before) (sym same ∙ h .0), ne-eqb i (G .rows) (λ n. omega arith)))
 
   pub rows-ended : (τ : ℕ) → G .rows ≤ i → a ≡ rowsAnswer G test τ products
   unfolding rowsAnswer

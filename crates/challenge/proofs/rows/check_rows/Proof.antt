@@ -1,7 +1,6 @@
 use Prim.Native.Nat.{_-_}
 use native.Mathlib.Omega.{arith}
-use Rattle.ticket.specs.Laws.Positions.{row-inside}
-use Rattle.challenge.specs.Laws.Rows.{agrees, agrees-by}
+use Rattle.challenge.specs.Laws.Rows.{agrees, agrees-by, rows-inside}
 use Rattle.challenge.specs.Laws.Vectors.{RowsPassed, row-ready, rows-none, rows-next, rows-caught, rows-ended}
 use Rattle.challenge.proofs.rows.check_rows.Statement.{statement}
 use Rattle.challenge.proofs.rows.check_rows.Tie as tie
@@ -31,49 +30,49 @@ cast-i : tie.Need-cast-i Inv-loop μ-loop
 cast-i c = omega arith
 
 mul-i : tie.Need-mul-i Inv-loop μ-loop
-mul-i c = omega (arith, row-inside (c .before .before .before .before .before .before .before .before .before .before .before .args .setting .inner) (c .if1 .taken), c .before .before .before .before .before .before .before .before .before .before .before .pre .long-A)
+mul-i c = omega (arith, rows-inside (c .before .before .before .before .before .before .before .before .before .before .before .pre) (c .if1 .taken))
 
 cast-j : tie.Need-cast-j Inv-loop μ-loop
 cast-j c = omega arith
 
 mul-j : tie.Need-mul-j Inv-loop μ-loop
-mul-j c = omega (arith, row-inside (c .before .before .before .before .before .before .before .before .before .before .before .args .setting .columns) (c .if1 .taken), c .before .before .before .before .before .before .before .before .before .before .before .pre .long-claims)
+mul-j c = omega (arith, rows-inside (c .before .before .before .before .before .before .before .before .before .before .before .pre) (c .if1 .taken))
 
 add-check-row : tie.Need-add-check-row Inv-loop μ-loop
-add-check-row c = omega (arith, row-inside (c .before .before .before .before .before .before .before .before .before .before .before .args .setting .inner) (c .if1 .taken), c .before .before .before .before .before .before .before .before .before .before .before .pre .long-A)
+add-check-row c = omega (arith, rows-inside (c .before .before .before .before .before .before .before .before .before .before .before .pre) (c .if1 .taken))
 
 mul-check-row : tie.Need-mul-check-row Inv-loop μ-loop
-mul-check-row c = omega (arith, row-inside (c .before .before .before .before .before .before .before .before .before .before .before .args .setting .inner) (c .if1 .taken), c .before .before .before .before .before .before .before .before .before .before .before .pre .long-A)
+mul-check-row c = omega (arith, rows-inside (c .before .before .before .before .before .before .before .before .before .before .before .pre) (c .if1 .taken))
 
 sub-check-row : tie.Need-sub-check-row Inv-loop μ-loop
-sub-check-row c = omega (arith, row-inside (c .before .before .before .before .before .before .before .before .before .before .before .args .setting .inner) (c .if1 .taken), c .before .before .before .before .before .before .before .before .before .before .before .pre .long-A)
+sub-check-row c = omega (arith, rows-inside (c .before .before .before .before .before .before .before .before .before .before .before .pre) (c .if1 .taken))
 
 part-check-row-start : tie.Need-part-check-row-start Inv-loop μ-loop
-part-check-row-start c = omega (arith, row-inside (c .before .before .before .before .before .before .before .before .before .before .before .args .setting .inner) (c .if1 .taken), c .before .before .before .before .before .before .before .before .before .before .before .pre .long-A)
+part-check-row-start c = omega (arith, rows-inside (c .before .before .before .before .before .before .before .before .before .before .before .pre) (c .if1 .taken))
 
 part-check-row-end : tie.Need-part-check-row-end Inv-loop μ-loop
-part-check-row-end c = omega (arith, row-inside (c .before .before .before .before .before .before .before .before .before .before .before .args .setting .inner) (c .if1 .taken), c .before .before .before .before .before .before .before .before .before .before .before .pre .long-A)
+part-check-row-end c = omega (arith, rows-inside (c .before .before .before .before .before .before .before .before .before .before .before .pre) (c .if1 .taken))
 
 add-check-row-2 : tie.Need-add-check-row-2 Inv-loop μ-loop
-add-check-row-2 c = omega (arith, row-inside (c .before .before .before .before .before .before .before .before .before .before .before .before .args .setting .columns) (c .before .if1 .taken), c .before .before .before .before .before .before .before .before .before .before .before .before .pre .long-claims)
+add-check-row-2 c = omega (arith, rows-inside (c .before .before .before .before .before .before .before .before .before .before .before .before .pre) (c .before .if1 .taken))
 
 mul-check-row-2 : tie.Need-mul-check-row-2 Inv-loop μ-loop
-mul-check-row-2 c = omega (arith, row-inside (c .before .before .before .before .before .before .before .before .before .before .before .before .args .setting .columns) (c .before .if1 .taken), c .before .before .before .before .before .before .before .before .before .before .before .before .pre .long-claims)
+mul-check-row-2 c = omega (arith, rows-inside (c .before .before .before .before .before .before .before .before .before .before .before .before .pre) (c .before .if1 .taken))
 
 sub-check-row-2 : tie.Need-sub-check-row-2 Inv-loop μ-loop
-sub-check-row-2 c = omega (arith, row-inside (c .before .before .before .before .before .before .before .before .before .before .before .before .args .setting .columns) (c .before .if1 .taken), c .before .before .before .before .before .before .before .before .before .before .before .before .pre .long-claims)
+sub-check-row-2 c = omega (arith, rows-inside (c .before .before .before .before .before .before .before .before .before .before .before .before .pre) (c .before .if1 .taken))
 
 part-check-row-start-2 : tie.Need-part-check-row-start-2 Inv-loop μ-loop
-part-check-row-start-2 c = omega (arith, row-inside (c .before .before .before .before .before .before .before .before .before .before .before .before .args .setting .columns) (c .before .if1 .taken), c .before .before .before .before .before .before .before .before .before .before .before .before .pre .long-claims)
+part-check-row-start-2 c = omega (arith, rows-inside (c .before .before .before .before .before .before .before .before .before .before .before .before .pre) (c .before .if1 .taken))
 
 part-check-row-end-2 : tie.Need-part-check-row-end-2 Inv-loop μ-loop
-part-check-row-end-2 c = omega (arith, row-inside (c .before .before .before .before .before .before .before .before .before .before .before .before .args .setting .columns) (c .before .if1 .taken), c .before .before .before .before .before .before .before .before .before .before .before .before .pre .long-claims)
+part-check-row-end-2 c = omega (arith, rows-inside (c .before .before .before .before .before .before .before .before .before .before .before .before .pre) (c .before .if1 .taken))
 
 check-row-requires : tie.Need-check-row-requires Inv-loop μ-loop
-check-row-requires c κs = row-ready (c .before .before .before .before .loop .inv) (c .before .before .before .before .before .before .before .before .before .before .before .before .before .pre) (c .before .before .before .before .before .offset2 .ensures) (c .before .before .if1 .taken)
+check-row-requires c κs = row-ready (c .before .before .before .before .loop .inv) (c .before .before .before .before .before .before .before .before .before .before .before .before .before .pre) (c .before .before .if1 .taken) (c .before .before .before .before .before .offset2 .ensures)
 
 returns : tie.Need-returns Inv-loop μ-loop
-returns c = rows-caught (c .before .before .before .before .before .before .before .loop .inv) (c .before .before .before .before .before .before .before .before .before .before .before .before .before .before .before .before .args .x .now) (c .before .before .before .before .before .before .before .before .before .before .before .before .before .before .before .before .args .u .now) (c .before .before .before .before .before .before .before .before .before .before .before .before .before .before .before .before .pre .one) (c .before .before .before .before .before .before .before .before .before .before .before .before .before .before .before .before .pre .size) (c .before .before .before .before .before .if1 .taken) _ (agrees-by (c .before .before .before .before .before .before .before .before .before .before .before .before .before .before .before .before .args .setting) (c .before .before .before .before .before .before .before .before .before .before .before .before .before .before .before .before .args .a .now) (c .before .before .before .before .before .before .before .before .before .before .before .before .before .before .before .before .args .w .now) (c .before .before .before .before .before .before .before .before .before .before .before .before .before .before .before .before .args .lift) (c .before .before .before .before .before .before .before .before .before .before .before .before .before .before .before .before .args .x .now) (c .before .before .before .before .before .before .before .before .before .before .before .before .before .before .before .before .args .u .now) (c .before .before .before .before .before .before .before .loop .row) (c .before .before .before .before .before .before .before .before .before .offset .ensures) (c .before .before .before .before .before .before .before .before .offset2 .ensures)) (c .before .before .check-row .ensures) (c .if2 .taken)
+returns c = rows-caught (c .before .before .before .before .before .before .before .loop .inv) (c .before .before .before .before .before .before .before .before .before .before .before .before .before .before .before .before .pre) (c .before .before .before .before .before .if1 .taken) _ (agrees-by (c .before .before .before .before .before .before .before .before .before .before .before .before .before .before .before .before .pre) _ (c .before .before .before .before .before .before .before .before .before .offset .ensures) (c .before .before .before .before .before .before .before .before .offset2 .ensures)) (c .before .before .check-row .ensures) (c .if2 .taken)
 
 add-row : tie.Need-add-row Inv-loop μ-loop
 add-row c = omega arith
@@ -82,7 +81,7 @@ loop-less : tie.Need-loop-less Inv-loop μ-loop
 loop-less c = omega arith
 
 loop-again : tie.Need-loop-again Inv-loop μ-loop
-loop-again c = rows-next (c .before .before .before .before .before .before .before .loop .inv) (c .before .before .before .before .before .before .before .before .before .before .before .before .before .before .before .before .args .x .now) (c .before .before .before .before .before .before .before .before .before .before .before .before .before .before .before .before .args .u .now) (c .before .before .before .before .before .before .before .before .before .before .before .before .before .before .before .before .pre .one) (c .before .before .before .before .before .before .before .before .before .before .before .before .before .before .before .before .pre .size) (c .before .before .before .before .before .if1 .taken) _ (agrees-by (c .before .before .before .before .before .before .before .before .before .before .before .before .before .before .before .before .args .setting) (c .before .before .before .before .before .before .before .before .before .before .before .before .before .before .before .before .args .a .now) (c .before .before .before .before .before .before .before .before .before .before .before .before .before .before .before .before .args .w .now) (c .before .before .before .before .before .before .before .before .before .before .before .before .before .before .before .before .args .lift) (c .before .before .before .before .before .before .before .before .before .before .before .before .before .before .before .before .args .x .now) (c .before .before .before .before .before .before .before .before .before .before .before .before .before .before .before .before .args .u .now) (c .before .before .before .before .before .before .before .loop .row) (c .before .before .before .before .before .before .before .before .before .offset .ensures) (c .before .before .before .before .before .before .before .before .offset2 .ensures)) (c .before .before .check-row .ensures) (c .if2 .left)
+loop-again c = rows-next (c .before .before .before .before .before .before .before .loop .inv) (c .before .before .before .before .before .before .before .before .before .before .before .before .before .before .before .before .pre) (c .before .before .before .before .before .if1 .taken) _ (agrees-by (c .before .before .before .before .before .before .before .before .before .before .before .before .before .before .before .before .pre) _ (c .before .before .before .before .before .before .before .before .before .offset .ensures) (c .before .before .before .before .before .before .before .before .offset2 .ensures)) (c .before .before .check-row .ensures) (c .if2 .left)
 
 returns-2 : tie.Need-returns-2 Inv-loop μ-loop
 returns-2 c = rows-ended (c .before .before .loop .inv) _ (c .if1 .left)
