@@ -3,10 +3,12 @@
 --   Records    lists one after the other; what the records of the written ticket hold
 --   Claims     quotient and remainder of a sum
 --   Operands   the operands, as the code tests and converts them
+--   Puts       bytes put over a part of the output
 --   Sums       the claims, as the code makes them
 --   Writes     the output, as the code writes records to it
 pub mod Records
 pub mod Claims
 pub mod Operands
+pub mod Puts
 pub mod Sums
 pub mod Writes

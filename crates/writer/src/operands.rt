@@ -1,20 +1,20 @@
 // The operands: tests 13 and 14, and their entries as 16-bit numbers and as least residues.
 ghost use mathlib.Core.Path.{_≡_};
-ghost use Prim.Native.Nat.{_*_, _≤_, _^_, _<_};
+ghost use Prim.Native.Nat.{_+_, _*_, _≤_, _^_, _<_};
 ghost use lib.IntN.{pos, natAbs};
 ghost use lib.ListN.{length};
 ghost use Rattle.residue.specs.Rules.{modulus, leastResidue};
 ghost use Rattle.ticket.specs.Laws.All.{all};
-ghost use Rattle.ticket.specs.Laws.Fills.{Columns, Filled};
+ghost use Rattle.ticket.specs.Laws.Fills.{Columns, ColumnsTo, Filled};
 ghost use Rattle.ticket.specs.Laws.Limits.{Counts};
 ghost use Rattle.writer.specs.Rules.{operandsReading};
-ghost use Rattle.writer.specs.Laws.Operands.{beyondFrom, entryIn, mostEntries, Narrow, residueIn, withinAt};
+ghost use Rattle.writer.specs.Laws.Operands.{beyondFrom, entryIn, mostEntries, Narrow, TurnReady, withinAt};
 use residue::Residue;
 use ticket::Answer;
 use ticket::Setting;
 
 // The most entries of an operand.
-pub(crate) const ENTRIES: usize = 2048;
+pub(crate) const ENTRIES: usize = (Setting::MOST_ROWS * Setting::MOST_INNER) as usize;
 
 // The answer of the tests 13 and 14; its number is 0 where they pass.
 pub(crate) fn read(setting: Setting, a: &[i32], b: &[i32]) -> Answer
@@ -91,58 +91,47 @@ fn magnitude(n: i32) -> u32
     wide as u32
 }
 
-// The entries of a matrix, row by row.
-pub(crate) fn rows(operand: &[i32]) -> [i16; ENTRIES]
-    requires { ⌜ Narrow (now operand) ⌝ }
-    ensures { λ r. ⌜ Filled (pos 0) mostEntries (length (now (operand .entry))) (entryIn (now (operand .entry))) r ⌝ }
+// The entries of a matrix, row by row, at the beginning of the list.
+pub(crate) fn rows(operand: &[i32], list: &mut [i16])
+    requires { ⌜ Narrow (now operand) × (length (now operand) ≤ length (now list)) ⌝ }
+    ensures { λ r. ⌜ Filled (pos 0) (length (now (list .entry))) (length (now (operand .entry))) (entryIn (now (operand .entry))) (now (list .exit)) ⌝ }
 {
-    let mut list = [0; ENTRIES];
     let mut k = 0;
     while k < operand.len() {
         list[k] = operand[k] as i16;
         k += 1;
     }
-    list
 }
 
-// The entries of a matrix, column by column.
-pub(crate) fn columns(operand: &[i32], height: usize, width: usize) -> [i16; ENTRIES]
-    requires { ⌜ (1 ≤ width) × (length (now operand) ≡ height * width) × Narrow (now operand) ⌝ }
-    ensures { λ r. ⌜ Columns (pos 0) mostEntries height width (entryIn (now (operand .entry))) r ⌝ }
+// The entries of a matrix, column by column, at the beginning of the list.
+pub(crate) fn columns(operand: &[i32], height: usize, width: usize, list: &mut [i16])
+    requires { ⌜ Narrow (now operand) × (length (now operand) ≡ height * width) × (length (now operand) ≤ length (now list)) ⌝ }
+    ensures { λ r. ⌜ Columns (pos 0) (length (now (list .entry))) height width (entryIn (now (operand .entry))) (now (list .exit)) ⌝ }
 {
-    let mut list = [0; ENTRIES];
-    let mut k = 0;
     let mut row = 0;
-    let mut column = 0;
-    while k < operand.len() {
-        let at = column * height + row;
-        list[at] = operand[k] as i16;
-        k += 1;
-        column += 1;
-        if column == width {
-            column = 0;
-            row += 1;
-        }
+    while row < height {
+        turn_row(operand, height, width, row, list);
+        row += 1;
     }
-    list
 }
 
-// The least residues of the entries.
-pub(crate) fn residues(operand: &[i32]) -> [u32; ENTRIES]
-    requires { ⌜ Narrow (now operand) ⌝ }
-    ensures { λ r. ⌜ Filled 0 mostEntries (length (now (operand .entry))) (residueIn (now (operand .entry))) r ⌝ }
+// One row of a matrix more: its entries stand height apart.
+fn turn_row(operand: &[i32], height: usize, width: usize, row: usize, list: &mut [i16])
+    requires { ⌜ TurnReady (now operand) height width row (now list) ⌝ }
+    ensures { λ r. ⌜ ColumnsTo (pos 0) (length (now (list .entry))) height width ((row + 1) * width) (entryIn (now (operand .entry))) (now (list .exit)) ⌝ }
 {
-    let mut list = [0; ENTRIES];
-    let mut k = 0;
-    while k < operand.len() {
-        list[k] = residue(operand[k]);
-        k += 1;
+    let start = row * width;
+    let mut at = row;
+    let mut column = 0;
+    while column < width {
+        list[at] = operand[start + column] as i16;
+        at += height;
+        column += 1;
     }
-    list
 }
 
 // The least residue of a small entry.
-fn residue(entry: i32) -> u32
+pub(crate) fn residue(entry: i32) -> u32
     requires { ⌜ natAbs entry < 2 ^ 15 ⌝ }
     ensures { λ r. ⌜ r ≡ leastResidue modulus entry ⌝ }
 {

@@ -1,67 +1,91 @@
 // Writing the records.
 ghost use mathlib.Core.Path.{_≡_};
 ghost use mathlib.Core.List.{_++_};
-ghost use Prim.Native.Nat.{_+_, _*_, _≤_};
-ghost use lib.ListN.{drop, length, take};
+ghost use Prim.Native.Nat.{_*_, _≤_};
+ghost use lib.ListN.{drop, length};
 ghost use Rattle.ticket.specs.Rules.{recordBytes, ticketLength};
-ghost use Rattle.writer.specs.Rules.{recordOf, ticketOf};
+ghost use Rattle.writer.specs.Rules.{ticketOf};
+ghost use Rattle.writer.specs.Laws.Operands.{residueIn};
+ghost use Rattle.writer.specs.Laws.Puts.{putAt};
 ghost use Rattle.writer.specs.Laws.Sums.{WriteReady};
-ghost use Rattle.writer.specs.Laws.Writes.{recordsIn, RoomFor};
-use crate::claims::claims;
-use crate::operands::residues;
+ghost use Rattle.writer.specs.Laws.Writes.{lineRecords, LineReady, PartReady, recordsTo, wordsOf};
+use crate::claims::write_claims;
+use crate::operands::residue;
 use ticket::RECORD;
 use ticket::Setting;
+
+// By how much the first word of a record grows from one column to the next.
+pub(crate) const COLUMN: u32 = 16_777_216;
 
 // The ticket, at the beginning of the output.
 pub(crate) fn write_ticket(setting: Setting, a: &[i32], b: &[i32], output: &mut [u8])
     requires { ⌜ WriteReady setting (now a) (now b) × (ticketLength setting ≤ length (now output)) ⌝ }
     ensures { λ r. ⌜ now (output .exit) ≡ ticketOf setting (now (a .entry)) (now (b .entry)) ++ drop (ticketLength setting) (now (output .entry)) ⌝ }
 {
+    let height = setting.rows as usize;
     let inner = setting.inner as usize;
     let width = setting.columns as usize;
-    let of_a = (setting.rows as usize) * inner;
-    let of_b = inner * width;
-    let count = (setting.rows as usize) * width;
-    let a_values = residues(a);
-    write_records(output, 0, 1, inner, &a_values[..of_a]);
-    let b_values = residues(b);
-    write_records(output, of_a, 2, width, &b_values[..of_b]);
-    let claims = claims(setting, a, b);
-    let quotients = of_a + of_b;
-    write_records(output, quotients, 3, width, &claims[..count]);
-    let remainders = quotients + count;
-    write_records(output, remainders, 4, width, &claims[count..count + count]);
+    write_part(output, 0, 1, height, inner, a);
+    let of_a = height * inner;
+    write_part(output, of_a, 2, inner, width, b);
+    write_claims(setting, a, b, output);
 }
 
-// The records of a part, from record start of the output on: a matrix of so many columns, its values row by row.
-fn write_records(output: &mut [u8], start: usize, kind: u8, width: usize, values: &[u32])
-    requires { ⌜ RoomFor (now output) start width (now values) ⌝ }
-    ensures { λ r. ⌜ now (output .exit) ≡ take (recordBytes * start) (now (output .entry)) ++ (recordsIn kind width (now (values .entry)) (length (now (values .entry))) ++ drop (recordBytes * (start + length (now (values .entry)))) (now (output .entry))) ⌝ }
+// The records of an operand, from record start of the output on.
+fn write_part(
+    output: &mut [u8],
+    start: usize,
+    kind: u8,
+    height: usize,
+    width: usize,
+    operand: &[i32],
+)
+    requires { ⌜ PartReady (now output) start height width (now operand) ⌝ }
+    ensures { λ r. ⌜ now (output .exit) ≡ putAt (now (output .entry)) (recordBytes * start) (recordsTo kind width (residueIn (now (operand .entry))) (height * width)) ⌝ }
 {
-    let mut i = 0;
-    let mut row: u8 = 0;
-    let mut column: u8 = 0;
-    while i < values.len() {
-        let at = RECORD * (start + i);
-        put(&mut output[at..at + RECORD], kind, row, column, values[i]);
-        i += 1;
-        column += 1;
-        if (column as usize) == width {
-            column = 0;
-            row += 1;
-        }
+    let mut row = 0;
+    while row < height {
+        let first = row * width;
+        write_line(
+            output,
+            start + first,
+            kind,
+            row as u8,
+            &operand[first..first + width],
+        );
+        row += 1;
     }
 }
 
-// One record.
-fn put(bytes: &mut [u8], kind: u8, row: u8, column: u8, value: u32)
-    requires { ⌜ length (now bytes) ≡ recordBytes ⌝ }
-    ensures { λ r. ⌜ now (bytes .exit) ≡ recordOf kind row column value ⌝ }
+// The records of a row of an operand. Both words of a record are made without a branch, so that the compiler makes several records
+// at a time.
+fn write_line(output: &mut [u8], start: usize, kind: u8, row: u8, entries: &[i32])
+    requires { ⌜ LineReady (now output) start (now entries) ⌝ }
+    ensures { λ r. ⌜ now (output .exit) ≡ putAt (now (output .entry)) (recordBytes * start) (lineRecords kind row (residueIn (now (entries .entry))) (length (now (entries .entry)))) ⌝ }
 {
-    bytes[0] = kind;
-    bytes[1] = 0;
-    bytes[2] = row;
-    bytes[3] = column;
+    let mut header = ticket::word(kind, 0, row, 0);
+    let mut column = 0;
+    while column < entries.len() {
+        let at = RECORD * (start + column);
+        put(
+            &mut output[at..at + RECORD],
+            header,
+            residue(entries[column]),
+        );
+        header += COLUMN;
+        column += 1;
+    }
+}
+
+// One record, by its two words.
+pub(crate) fn put(bytes: &mut [u8], header: u32, value: u32)
+    requires { ⌜ length (now bytes) ≡ recordBytes ⌝ }
+    ensures { λ r. ⌜ now (bytes .exit) ≡ wordsOf header value ⌝ }
+{
+    bytes[0] = (header % 256) as u8;
+    bytes[1] = (header / 256 % 256) as u8;
+    bytes[2] = (header / 65_536 % 256) as u8;
+    bytes[3] = (header / 16_777_216 % 256) as u8;
     bytes[4] = (value % 256) as u8;
     bytes[5] = (value / 256 % 256) as u8;
     bytes[6] = (value / 65_536 % 256) as u8;

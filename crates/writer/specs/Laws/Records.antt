@@ -1,10 +1,12 @@
 -- Lists one after the other, and what the records of the written ticket hold.
 --
 --   joined-more          one more list stands at the end
+--   joined-add           the first n lists, and m more
 --   joined-cong          equal lists, joined, are equal
 --   length-joined        n lists of w elements come to w * n
 --   joined-at            element k of list i is element w * i + k of the lists joined
 --   length-recordOf, length-recordsOf, length-ticketOf   how many bytes a record, a part and the ticket have
+--   bytes-of-value       the bytes of a number are those that make it up
 --   RecordAt b i κ r c x   record i of b is recordOf κ r c x
 --   formed-record        such a record has the form of its kind, row and column
 --   value-record         and the value x, where that is below 2^32
@@ -15,7 +17,7 @@
 --   formed-of-ticket, value-of-ticket   its form and its value
 --   value-in-ticket      the value by row and column
 use Prim.Native.Nat.{ℕ, zero, suc, _+_, _*_, _/_, _%_, _^_, _≤_, _<_}
-use native.Mathlib.Nat.{mul-le-mul-left, mod-eq-of-lt, div-add-mod}
+use native.Mathlib.Nat.{add-zero, add-suc, mul-le-mul-left, mod-eq-of-lt, div-add-mod}
 use native.Mathlib.Numerals.{add-one}
 use native.Mathlib.Decide.{ℕ-discrete}
 use native.Mathlib.Omega.{arith}
@@ -39,6 +41,12 @@ use Rattle.writer.specs.Rules.{joined, recordOf, recordsOf, ticketOf, en
 pub joined-more : (n : ℕ) (f : ℕ → List ℕ) → joined (n + 1) f ≡ joined n f ++ f n
 unfolding joined
 joined-more n f = rw add-one
+
+pub joined-add : (n m : ℕ) (f : ℕ → List ℕ) → joined (n + m) f ≡ joined n f ++ joined m (λ j. f (n + j))
+unfolding joined
+joined-add n zero f = rw add-zero (sym (append-nil (joined n f)))
+joined-add n (suc m) f =
+    rw add-suc (ap (λ x. x ++ f (n + m)) (joined-add n m f) ∙ append-assoc (joined n f) (joined m (λ j. f (n + j))) (f (n + m)))
 
 pub joined-cong : (n : ℕ) (f g : ℕ → List ℕ) → ((i : ℕ) → i < n → f i ≡ g i) → joined n f ≡ joined n g
 unfolding joined
@@ -91,8 +99,7 @@ four-bytes n l =
     let last : n / 16_777_216 % 256 ≡ n / 16_777_216 = mod-eq-of-lt (omega arith) in
     omega (arith, div-add-mod n 256, div-add-mod (n / 256) 256, div-add-mod (n / 65_536) 256)
 
--- the bytes of a number are those that make it up
-bytes-of-value : (a b c d : ℕ) → a < 256 → b < 256 → c < 256 → d < 256
+pub bytes-of-value : (a b c d : ℕ) → a < 256 → b < 256 → c < 256 → d < 256
     → let n = a + 256 * b + 65_536 * c + 16_777_216 * d in
     (a ≡ n % 256) × (b ≡ n / 256 % 256) × (c ≡ n / 65_536 % 256) × (d ≡ n / 16_777_216 % 256)
 bytes-of-value a b c d ha hb hc hd =

@@ -1,24 +1,23 @@
 -- The claims, as the code makes them.
 --
---   ClaimIs a S q r   q is the least residue of S over a, rounded down, and r what is left
---   Divided G s q r   q and r are that for the sum that s is modulo 2^32, where it is at most m · T² in size
---   claim-low, claim-high   quotient and remainder of a sum, from those of its lift
+--   liftedOf G s      the sum that s is modulo 2^32, lifted
+--   quotientFor G s, remainderFor G s   the least residue of its quotient, and its remainder
+--   quotient-low, quotient-high, remainder-made   both, as the code makes them
 --   WriteReady G A B  the tests before the writing pass
 --   narrow-A, narrow-B   the operands are then 16-bit numbers
---   ClaimsIn G A B c l   the values of the first c claims are in l, the remainders after all quotients
---   SumReady G A B X Y   X are the rows of A, Y the columns of B
---   LinesIn m X Y i j, lines-inside   row and column of a claim are there
---   claims-none, claims-more   no claim, and one more
+--   Lines G X Y       X has as many numbers as A, and Y as B, or more
+--   sumAt G X Y i j   the sum of the products of line i of X and line j of Y, modulo 2^32
+--   SumReady G A B X Y, sum-ready   X begins with the rows of A, Y with the columns of B
+--   quotient-at, remainder-at   the claim that this sum makes is the true one
 use Prim.Native.Nat.{ℕ, _+_, _-_, _*_, _/_, _%_, _≤_, _<_, _^_}
-use native.Mathlib.Nat.{div-add-mod, div-le-self, mod-lt, mul-le-mul}
-use native.Mathlib.Decide.{ℕ-discrete}
+use native.Mathlib.Nat.{div-add-mod, mod-lt, mul-le-mul, mul-le-mul-left}
 use native.Mathlib.Omega.{arith}
 use mathlib.Core.Path.{_≡_, refl, sym, ap, _∙_}
 use mathlib.Core.List.{List}
 use lib.Arith.{digits-lt}
+use lib.Pow.{pow-pos}
 use lib.IntN.{ℤ, pos, natAbs, _+ℤ_, _-ℤ_, _*ℤ_}
-use lib.ListN.{length, getD, set, length-set}
-use lib.Seq.{getD-set-same, getD-set-other}
+use lib.ListN.{length, getD}
 use Rattle.residue.specs.Rules.{modulus, leastResidue, powerOfTwo}
 use Rattle.residue.specs.Laws.Integers.{positive, negative, equal-of-parts, parts-sum, parts-difference, parts-product}
 use Rattle.residue.specs.Laws.Modulus.{modulus-is, modulus-positive}
@@ -30,88 +29,113 @@ use Rattle.exact.specs.Rules.{dotProduct}
 use Rattle.exact.specs.Laws.Products.{dot-is}
 use Rattle.ticket.specs.declared.setting.Setting.{Setting}
 use Rattle.ticket.specs.Laws.Fills.{Filled, Columns, part-of, part-long, lineOf}
-use Rattle.ticket.specs.Laws.Lifts.{lift, Lifted, lift-by-half, lifted-sum, lifted-small}
+use Rattle.ticket.specs.Laws.Lifts.{lift, Lifted, lift-by-half, lifted-sum}
 use Rattle.ticket.specs.Laws.Limits.{Counts, Numbers, Fitted, half-of}
-use Rattle.ticket.specs.Laws.Positions.{Position, row-of, column-of, position-within, row-inside}
+use Rattle.ticket.specs.Laws.Positions.{row-inside}
 use Rattle.writer.specs.Rules.{entryOf, sumOf, quotientOf, remainderOf}
-use Rattle.writer.specs.Laws.Operands.{mostEntries, entryIn, Narrow}
+use Rattle.writer.specs.Laws.Operands.{entryIn, Narrow}
 
 -- one claim
 
-pub record ClaimIs (scale : ℕ) (S : ℤ) (q r : ℕ) : Type 0 where
-  pub quotient-is : q ≡ leastResidue modulus (floorDivision S scale)
-  pub remainder-is : pos r ≡ S -ℤ pos scale *ℤ floorDivision S scale
-  pub remainder-small : r < scale
+abbrev pub liftedOf : Setting → ℕ → ℕ
+liftedOf G sum = (sum + lift G) % 2 ^ 32
 
-abbrev pub Divided : Setting → ℕ → ℕ → ℕ → Type 0
-Divided G sum q r = (S : ℤ) → natAbs S ≤ G .inner * (G .bound * G .bound) → sum ≡ leastResidue (2 ^ 32) S → ClaimIs (G .scale) S q r
+unfoldable pub quotientFor : Setting → ℕ → ℕ
+quotientFor G sum = leastResidue modulus (pos (liftedOf G sum / G .scale) -ℤ pos (2 ^ (G .width - 1)))
 
-module _ {G : Setting} (numbers : Numbers G) (fitted : Fitted G) {half sum x : ℕ} (half-is : half ≡ powerOfTwo (G .width - 1))
-    (x-is : x ≡ (sum + half * G .scale) % 2 ^ 32)
-    (S : ℤ) (small : natAbs S ≤ G .inner * (G .bound * G .bound)) (sum-is : sum ≡ leastResidue (2 ^ 32) S) where
-  lifted : Lifted G S x
-  lifted = lifted-sum numbers fitted S small (x-is ∙ rw (sum-is, lift-by-half numbers fitted half-is))
+unfoldable pub remainderFor : Setting → ℕ → ℕ
+remainderFor G sum = liftedOf G sum % G .scale
+
+module _ {G : Setting} (numbers : Numbers G) (fitted : Fitted G) {half x : ℕ} (sum : ℕ) (half-is : half ≡ powerOfTwo (G .width - 1))
+    (x-is : x ≡ (sum + half * G .scale) % 2 ^ 32) where
+  x-lifted : x ≡ liftedOf G sum
+  x-lifted = x-is ∙ ap (λ n. (sum + n) % 2 ^ 32) (lift-by-half numbers fitted half-is)
 
   half-power : half ≡ 2 ^ (G .width - 1)
   half-power = half-of {G = G} numbers half-is .power
 
-  divided : pos (G .scale) *ℤ (pos (x / G .scale) -ℤ pos half) +ℤ pos (x % G .scale) ≡ S
+  pub remainder-made : x % G .scale ≡ remainderFor G sum
+  unfolding remainderFor
+  remainder-made = ap (λ n. n % G .scale) x-lifted
+
+  quotient-made : {q : ℕ} → leastResidue modulus (pos (x / G .scale) -ℤ pos half) ≡ q → q ≡ quotientFor G sum
+  unfolding quotientFor
+  quotient-made e =
+      sym e ∙ ap (λ n. leastResidue modulus (pos (n / G .scale) -ℤ pos half)) x-lifted
+      ∙ ap (λ n. leastResidue modulus (pos (liftedOf G sum / G .scale) -ℤ pos n)) half-power
+
+  pub quotient-low : x / G .scale < half → x / G .scale + (2 ^ 31 - 1 - half) ≡ quotientFor G sum
+  quotient-low l =
+      let low : half ≤ 2 ^ 29 = half-of {G = G} numbers half-is .small in
+      quotient-made
+      (residue-shift modulus modulus-positive (pos (x / G .scale) -ℤ pos half) (pos (x / G .scale + (modulus - half))) 1 0
+      (omega (arith, parts-difference (pos (x / G .scale)) (pos half), modulus-is))
+      ∙ residue-of-residue modulus modulus-positive (x / G .scale + (modulus - half)) (omega (arith, modulus-is))
+      ∙ ap (λ p. x / G .scale + (p - half)) modulus-is)
+
+  pub quotient-high : half ≤ x / G .scale → x / G .scale - half ≡ quotientFor G sum
+  quotient-high l =
+      let above : 1 ≤ 2 ^ (G .width - 1) = pow-pos (G .width - 1) in
+      let below : x < 2 ^ 32 = rw x-is (mod-lt (sum + half * G .scale) (omega arith)) in
+      let twice : x / G .scale * 2 ≤ x / G .scale * G .scale = mul-le-mul-left (x / G .scale) (numbers .scale .0) in
+      quotient-made
+      (ap (leastResidue modulus) (equal-of-parts (pos (x / G .scale) -ℤ pos half) (pos (x / G .scale - half))
+      (omega (arith, parts-difference (pos (x / G .scale)) (pos half))))
+      ∙ residue-of-residue modulus modulus-positive (x / G .scale - half)
+      (omega (arith, div-add-mod x (G .scale), half-power, modulus-is)))
+
+-- the claim that a small sum makes
+
+module _ {G : Setting} (numbers : Numbers G) (fitted : Fitted G) (S : ℤ) (small : natAbs S ≤ G .inner * (G .bound * G .bound)) {sum : ℕ}
+    (sum-is : sum ≡ leastResidue (2 ^ 32) S) where
+  lifted : Lifted G S (liftedOf G sum)
+  lifted = lifted-sum numbers fitted S small (ap (λ n. (n + lift G) % 2 ^ 32) sum-is)
+
+  abbrev shifted : ℤ
+  shifted = pos (liftedOf G sum / G .scale) -ℤ pos (2 ^ (G .width - 1))
+
+  divided : pos (G .scale) *ℤ shifted +ℤ pos (remainderFor G sum) ≡ S
+  unfolding remainderFor
   divided =
-      let scaled = pos (G .scale) *ℤ (pos (x / G .scale) -ℤ pos half) in
+      let x = liftedOf G sum in
+      let scaled = pos (G .scale) *ℤ shifted in
       equal-of-parts (scaled +ℤ pos (x % G .scale)) S
       (omega (
         arith,
         parts-sum scaled (pos (x % G .scale)),
-        parts-product (pos (G .scale)) (pos (x / G .scale) -ℤ pos half),
-        ap (λ n. G .scale * n) (parts-difference (pos (x / G .scale)) (pos half)),
+        parts-product (pos (G .scale)) shifted,
+        ap (λ n. G .scale * n) (parts-difference (pos (x / G .scale)) (pos (2 ^ (G .width - 1)))),
         div-add-mod x (G .scale),
         parts-sum S (pos (lift G)),
         ap positive lifted,
         ap negative lifted,
-        ap (λ n. G .scale * n) half-power,
       ))
 
-  quotient : pos (x / G .scale) -ℤ pos half ≡ floorDivision S (G .scale)
-  quotient =
-      floor-unique S (pos (x / G .scale) -ℤ pos half) (G .scale) (x % G .scale) (mod-lt x (omega (arith, numbers .scale))) divided
+  left-small : remainderFor G sum < G .scale
+  unfolding remainderFor
+  left-small = mod-lt (liftedOf G sum) (omega (arith, numbers .scale))
 
-  left : pos (x % G .scale) ≡ S -ℤ pos (G .scale) *ℤ floorDivision S (G .scale)
-  left =
-      let scaled = pos (G .scale) *ℤ (pos (x / G .scale) -ℤ pos half) in
-      equal-of-parts (pos (x % G .scale)) (S -ℤ scaled)
-      (omega (arith, parts-difference S scaled, parts-sum scaled (pos (x % G .scale)), ap positive divided, ap negative divided))
-      ∙ ap (λ z. S -ℤ pos (G .scale) *ℤ z) quotient
+  quotient : shifted ≡ floorDivision S (G .scale)
+  quotient = floor-unique S shifted (G .scale) (remainderFor G sum) left-small divided
 
-  pub claim-low : x / G .scale < half → ClaimIs (G .scale) S (x / G .scale + (2 ^ 31 - 1 - half)) (x % G .scale)
-  claim-low l =
-      let low : half ≤ 2 ^ 29 = half-of {G = G} numbers half-is .small in
-      record {
-        quotient-is =
-            sym (
-            ap (leastResidue modulus) (sym quotient)
-            ∙ residue-shift modulus modulus-positive (pos (x / G .scale) -ℤ pos half) (pos (x / G .scale + (modulus - half))) 1 0
-            (omega (arith, parts-difference (pos (x / G .scale)) (pos half), modulus-is))
-            ∙ residue-of-residue modulus modulus-positive (x / G .scale + (modulus - half)) (omega (arith, modulus-is))
-            ∙ ap (λ p. x / G .scale + (p - half)) modulus-is
-            );
-        remainder-is = left;
-        remainder-small = mod-lt x (omega (arith, numbers .scale));
-      }
+  quotient-true : quotientFor G sum ≡ leastResidue modulus (floorDivision S (G .scale))
+  unfolding quotientFor
+  quotient-true = ap (leastResidue modulus) quotient
 
-  pub claim-high : half ≤ x / G .scale → ClaimIs (G .scale) S (x / G .scale - half) (x % G .scale)
-  claim-high l =
-      let below : x < modulus = lifted-small numbers fitted S small lifted in
-      let few : x / G .scale ≤ x = div-le-self x (G .scale) in
-      record {
-        quotient-is =
-            sym (
-            ap (leastResidue modulus) (sym quotient ∙ equal-of-parts (pos (x / G .scale) -ℤ pos half) (pos (x / G .scale - half))
-            (omega (arith, parts-difference (pos (x / G .scale)) (pos half))))
-            ∙ residue-of-residue modulus modulus-positive (x / G .scale - half) (omega arith)
-            );
-        remainder-is = left;
-        remainder-small = mod-lt x (omega (arith, numbers .scale));
-      }
+  remainder-true : remainderFor G sum ≡ leastResidue modulus (S -ℤ pos (G .scale) *ℤ floorDivision S (G .scale))
+  remainder-true =
+      let scaled = pos (G .scale) *ℤ shifted in
+      let left : pos (remainderFor G sum) ≡ S -ℤ scaled =
+      equal-of-parts (pos (remainderFor G sum)) (S -ℤ scaled)
+      (omega (
+        arith,
+        parts-difference S scaled,
+        parts-sum scaled (pos (remainderFor G sum)),
+        ap positive divided,
+        ap negative divided,
+      )) in
+      sym (residue-of-residue modulus modulus-positive (remainderFor G sum) (omega (arith, left-small, numbers .scale, modulus-is)))
+      ∙ ap (leastResidue modulus) (left ∙ ap (λ z. S -ℤ pos (G .scale) *ℤ z) quotient)
 
 -- all claims
 
@@ -139,100 +163,54 @@ module _ {G : Setting} {A B : List ℤ} (ready : WriteReady G A B) where
         small = λ k l. omega (arith, ready .within-B k l, ready .numbers .bound);
       }
 
-pub record ClaimsIn (G : Setting) (A B : List ℤ) (count : ℕ) (list : List ℕ) : Type 0 where
-  pub long : length list ≡ mostEntries
-  pub quotients : (c : ℕ) → c < count → getD list c 0 ≡ leastResidue modulus (quotientOf G A B (c / G .columns) (c % G .columns))
-  pub remainders : (c : ℕ) → c < count
-      → getD list (G .rows * G .columns + c) 0 ≡ leastResidue modulus (remainderOf G A B (c / G .columns) (c % G .columns))
+pub record Lines (G : Setting) (X Y : List ℤ) : Type 0 where
+  pub rows : G .rows * G .inner ≤ length X
+  pub columns : G .inner * G .columns ≤ length Y
 
-pub claims-none : (G : Setting) (A B : List ℤ) {list : List ℕ} → length list ≡ mostEntries → ClaimsIn G A B 0 list
-claims-none G A B e = record { long = e; quotients = λ c l. absurd (omega arith); remainders = λ c l. absurd (omega arith) }
+abbrev pub sumAt : Setting → List ℤ → List ℤ → ℕ → ℕ → ℕ
+sumAt G X Y i j = dotProduct (lineOf X (G .inner) i) (lineOf Y (G .inner) j)
 
--- X: the rows of A; Y: the columns of B
 pub record SumReady (G : Setting) (A B X Y : List ℤ) : Type 0 where
-  pub rows : Filled (pos 0) mostEntries (length A) (entryIn A) X
-  pub columns : Columns (pos 0) mostEntries (G .inner) (G .columns) (entryIn B) Y
+  pub lines : Lines G X Y
+  pub rows : (k : ℕ) → k < length A → getD X k (pos 0) ≡ entryIn A k
+  pub columns : (k j : ℕ) → k < G .inner → j < G .columns → getD Y (j * G .inner + k) (pos 0) ≡ entryIn B (k * G .columns + j)
 
-pub record LinesIn (inner : ℕ) (X Y : List ℤ) (row column : ℕ) : Type 0 where
-  pub row-in : row * inner + inner ≤ length X
-  pub column-in : column * inner + inner ≤ length Y
-  pub rows-few : length X ≤ mostEntries
-  pub columns-few : length Y ≤ mostEntries
+pub sum-ready : {G : Setting} {A B X Y : List ℤ} {s t : ℕ} → WriteReady G A B → Filled (pos 0) s (length A) (entryIn A) X
+    → Columns (pos 0) t (G .inner) (G .columns) (entryIn B) Y → length A ≤ s → length B ≤ t → SumReady G A B X Y
+sum-ready ready rows columns room-A room-B =
+    record {
+      lines = record {
+        rows = omega (arith, ready .long-A, rows .long);
+        columns = omega (arith, ready .long-B, columns .long);
+      };
+      rows = rows .each;
+      columns = columns .each;
+    }
 
-module _ {G : Setting} {A B X Y : List ℤ} (ready : WriteReady G A B) (lines : SumReady G A B X Y) {c row column : ℕ}
-    (l : c < G .rows * G .columns) (at : Position (G .columns) c row column) where
-  row-within : row < G .rows
-  row-within = position-within at l
-
-  pub lines-inside : LinesIn (G .inner) X Y row column
-  lines-inside =
-      omega (
-        arith,
-        row-inside (G .inner) row-within,
-        row-inside (G .inner) (at .inside),
-        ready .counts,
-        lines .rows .long,
-        lines .columns .long,
-      )
-
+module _ {G : Setting} {A B X Y : List ℤ} (ready : WriteReady G A B) (sums : SumReady G A B X Y) {row column : ℕ}
+    (l : row < G .rows) (m : column < G .columns) where
   size-sum : natAbs (sumOf G A B row column) ≤ G .inner * (G .bound * G .bound)
   unfolding sumOf
   size-sum =
       sumℤ-bound (G .inner) (G .bound * G .bound) _ (λ k h.
       rw (size-product (entryOf (G .inner) A row k) (entryOf (G .columns) B k column))
-      (mul-le-mul (ready .within-A _ (omega (arith, ready .long-A, digits-lt row-within h)))
-      (ready .within-B _ (omega (arith, ready .long-B, digits-lt h (at .inside))))))
+      (mul-le-mul (ready .within-A _ (omega (arith, ready .long-A, digits-lt l h)))
+      (ready .within-B _ (omega (arith, ready .long-B, digits-lt h m)))))
 
-  sum-is : {sum : ℕ} → sum ≡ dotProduct (lineOf X (G .inner) row) (lineOf Y (G .inner) column)
-      → sum ≡ leastResidue (2 ^ 32) (sumOf G A B row column)
+  sum-is : sumAt G X Y row column ≡ leastResidue (2 ^ 32) (sumOf G A B row column)
   unfolding sumOf
-  sum-is e =
-      e ∙ dot-is (G .inner) (lineOf X (G .inner) row) (lineOf Y (G .inner) column) (entryOf (G .inner) A row) (λ k. entryOf (G .columns) B k column)
-      (part-long X (row * G .inner) (G .inner) (lines-inside .row-in)) (part-long Y (column * G .inner) (G .inner) (lines-inside .column-in))
+  sum-is =
+      dot-is (G .inner) (lineOf X (G .inner) row) (lineOf Y (G .inner) column) (entryOf (G .inner) A row) (λ k. entryOf (G .columns) B k column)
+      (part-long X (row * G .inner) (G .inner) (omega (arith, row-inside (G .inner) l, sums .lines .rows)))
+      (part-long Y (column * G .inner) (G .inner) (omega (arith, row-inside (G .inner) m, sums .lines .columns)))
       (λ k h. part-of X (row * G .inner) (G .inner) k (pos 0) h
-      ∙ lines .rows .each (row * G .inner + k) (omega (arith, ready .long-A, digits-lt row-within h)))
-      (λ k h. part-of Y (column * G .inner) (G .inner) k (pos 0) h ∙ lines .columns .each k column h (at .inside))
+      ∙ sums .rows (row * G .inner + k) (omega (arith, ready .long-A, digits-lt l h)))
+      (λ k h. part-of Y (column * G .inner) (G .inner) k (pos 0) h ∙ sums .columns k column h m)
 
-  module _ {sum q r : ℕ} (dot : sum ≡ dotProduct (lineOf X (G .inner) row) (lineOf Y (G .inner) column))
-      (claimed : Divided G sum q r) where
-    claim : ClaimIs (G .scale) (sumOf G A B row column) q r
-    claim = claimed (sumOf G A B row column) size-sum (sum-is dot)
+  pub quotient-at : quotientFor G (sumAt G X Y row column) ≡ leastResidue modulus (quotientOf G A B row column)
+  unfolding quotientOf
+  quotient-at = quotient-true (ready .numbers) (ready .fitted) (sumOf G A B row column) size-sum sum-is
 
-    scale-below : G .scale < modulus
-    scale-below = omega (arith, ready .numbers .scale, modulus-is)
-
-    quotient-value : q ≡ leastResidue modulus (quotientOf G A B (c / G .columns) (c % G .columns))
-    unfolding quotientOf
-    quotient-value = rw (row-of at, column-of at) (claim .quotient-is)
-
-    remainder-value : r ≡ leastResidue modulus (remainderOf G A B (c / G .columns) (c % G .columns))
-    unfolding quotientOf remainderOf
-    remainder-value =
-        sym (residue-of-residue modulus modulus-positive r (omega (arith, scale-below, claim .remainder-small)))
-        ∙ ap (leastResidue modulus) (claim .remainder-is) ∙ rw (row-of at, column-of at) refl
-
-    pub claims-more : {list : List ℕ} → ClaimsIn G A B c list
-        → ClaimsIn G A B (c + 1) (set (set list c q) (G .rows * G .columns + c) r)
-    claims-more {list} so-far =
-        let count = G .rows * G .columns in
-        let first : length (set list c q) ≡ mostEntries = length-set list c q ∙ so-far .long in
-        record {
-          long = length-set (set list c q) (count + c) r ∙ first;
-          quotients = λ i m.
-              getD-set-other (set list c q) (count + c) i r 0 (λ e. omega arith)
-              ∙ elim (ℕ-discrete i c) [
-                | yes e ↦
-                    ap (λ n. getD (set list c q) n 0) e ∙ getD-set-same list c q 0 (omega (arith, so-far .long, ready .counts))
-                    ∙ quotient-value ∙ ap (λ n. leastResidue modulus (quotientOf G A B (n / G .columns) (n % G .columns))) (sym e)
-                | no d ↦ getD-set-other list c i q 0 d ∙ so-far .quotients i (omega arith)
-              ];
-          remainders = λ i m. elim (ℕ-discrete i c) [
-            | yes e ↦
-                ap (λ n. getD (set (set list c q) (count + c) r) (count + n) 0) e
-                ∙ getD-set-same (set list c q) (count + c) r 0 (omega (arith, first, ready .counts))
-                ∙ remainder-value ∙ ap (λ n. leastResidue modulus (remainderOf G A B (n / G .columns) (n % G .columns))) (sym e)
-            | no d ↦
-                getD-set-other (set list c q) (count + c) (count + i) r 0 (λ e. d (omega arith))
-                ∙ getD-set-other list c (count + i) q 0 (λ e. omega arith) ∙ so-far .remainders i (omega arith)
-          ];
-        }
+  pub remainder-at : remainderFor G (sumAt G X Y row column) ≡ leastResidue modulus (remainderOf G A B row column)
+  unfolding quotientOf remainderOf
+  remainder-at = remainder-true (ready .numbers) (ready .fitted) (sumOf G A B row column) size-sum sum-is

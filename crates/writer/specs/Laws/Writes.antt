@@ -1,310 +1,403 @@
 -- The output, as the code writes records to it.
 --
---   recordsIn κ n x k   the first k records of a part of n columns with the values x
---   RoomFor o a n x     the output o has room for the records of x from record a on
---   WrittenTo o a κ n x k o'   o' is o with the first k records written
---   written-none, written-more   no record, and one more
---   written-long        the output stays as long as it is
---   record-put          eight bytes set one after the other are a record
+--   wordsOf h v         the eight bytes of two words, little-endian
+--   headerOf κ i j      the first word of a record of kind κ in row i, column j
+--   words-record        the words of a record are its bytes
+--   length-words        how many they are
+--   words-put           eight bytes set one after the other are those of two words
+--   lineRecords κ i f n   the first n records of row i, column j of which has the value f j
+--   recordsTo κ w f n   the first n records of a part of w columns, record c of which has the value f c
+--   length-line, length-part   how many bytes they have
+--   LineReady o a x     the output o has room for the records of the row x of an operand from record a on
+--   PartReady o a h w x   and for those of the operand x of h rows and w columns
+--   records-long        the output stays as long as it is
+--   line-put, part-put  one more record of a row is written, and one more row of a part
+--   lineClaims G x Y i q r n o   o with the first n claims of the row x of A and the columns Y: quotients from record q on, remainders from r on
+--   claimsTo G X Y n o  o with the first n claims of the rows X and the columns Y
+--   RowReady, ClaimsReady   o has room for a row of claims, and for all
+--   line-claims-none, claims-none   no claim is written yet
+--   line-claims-long, claims-long   the output stays as long as it is
+--   claim-put, claims-put   one more claim of a row is written, and one more row of claims
 --   part-values         the records of a part, by the least residues of what they stand for
---   Begins o p s o'     o' is o with the bytes p at its beginning, s records of them
---   begins-none, part-written   nothing is written, and one part more
---   begins-long         the output stays as long as it is
---   ticket-written      the four parts one after the other are the ticket
-use Prim.Native.Nat.{ℕ, _+_, _-_, _*_, _/_, _%_, _≤_, _<_}
-use native.Mathlib.Nat.{div-add-mod'}
+--   claimsOf G A B o    o with all claims of the ticket
+--   claims-written      they are those of the rows X and the columns Y
+--   ticket-written      the operands and the claims are the ticket
+--   ready-A, ready-B, ready-claims   what writing the operands and the claims asks for
+use Prim.Native.Nat.{ℕ, _+_, _-_, _*_, _/_, _%_, _^_, _≤_, _<_}
+use native.Mathlib.Nat.{div-add-mod', div-lt-iff-lt-mul, mod-lt}
 use native.Mathlib.Decide.{decLe}
 use native.Mathlib.Omega.{arith}
 use mathlib.Core.Path.{_≡_, refl, sym, ap, subst, _∙_}
-use mathlib.Core.List.{List, [], _++_, append-assoc, append-nil}
+use mathlib.Core.List.{List, [], _∷_, _++_, append-nil}
 use borrow.Author.Tests.{le-leb, lt-leb, eq-eqb, ne-eqb, eqb-true}
+use lib.Arith.{digits-div, digits-mod}
 use lib.Dec.{leb, eqb}
 use lib.IntN.{ℤ, pos, natAbs}
-use lib.ListN.{length, getD, take, drop, length-append, length-drop, take-append-drop, drop-of-length-le, List·getD-append}
-use lib.Seq.{take-at, drop-at, drop-drop, length-take-le, getD-take, getD-append-add, sets, sets-eq}
-use Rattle.residue.specs.Rules.{modulus, leastResidue}
+use lib.ListN.{length, getD, take, drop, length-append, drop-of-length-le, List·getD-append}
+use lib.Seq.{getD-append-add, sets, sets-eq}
+use Rattle.residue.specs.Rules.{modulus, leastResidue, powerOfTwo}
+use Rattle.exact.specs.Rules.{dotProduct}
 use Rattle.ticket.specs.declared.setting.Setting.{Setting}
 use Rattle.ticket.specs.declared.Answer.{Answer}
 use Rattle.ticket.specs.Rules.{unless, refusal, firstRefusal, settingNumber, recordBytes, ticketLength, records, Part, partA, partB, quotients, remainders}
 use Rattle.ticket.specs.Laws.Answers.{unless-zero, scan-zero}
-use Rattle.ticket.specs.Laws.Fills.{Filled, part-of, part-long}
-use Rattle.ticket.specs.Laws.Limits.{counts, passed-setting}
-use Rattle.ticket.specs.Laws.Positions.{Position, row-of, column-of}
+use Rattle.ticket.specs.Laws.Fills.{lineOf}
+use Rattle.ticket.specs.Laws.Layout.{length-is}
+use Rattle.ticket.specs.Laws.Limits.{Counts, Numbers, Fitted, counts, passed-setting}
+use Rattle.ticket.specs.Laws.Positions.{row-inside}
 use Rattle.ticket.specs.Laws.Scans.{after-passed, after-refused}
 use Rattle.writer.specs.Rules.{joined, recordOf, recordsOf, ticketOf, entryOf, quotientOf, remainderOf, operandNumber, operandsReading, written, writing, outputAfter}
-use Rattle.writer.specs.Laws.Records.{joined-more, joined-cong, length-joined, length-recordOf, length-recordsOf}
-use Rattle.writer.specs.Laws.Operands.{mostEntries, residueIn}
-use Rattle.writer.specs.Laws.Sums.{WriteReady, ClaimsIn}
-
-unfoldable pub recordsIn : ℕ → ℕ → List ℕ → ℕ → List ℕ
-recordsIn kind width values k = joined k (λ i. recordOf kind (i / width) (i % width) (getD values i 0))
-
--- height: how many rows there are
-pub record RoomFor (output : List ℕ) (start width : ℕ) (values : List ℕ) : Type 0 where
-  pub height : ℕ
-  pub columns : 1 ≤ width
-  pub count : length values ≡ height * width
-  pub high : height ≤ 64
-  pub wide : width ≤ 64
-  pub few : length values ≤ 4096
-  pub early : start ≤ 8192
-  pub room : recordBytes * (start + length values) ≤ length output
-
-pub length-recordsIn : (kind width : ℕ) (values : List ℕ) (k : ℕ) → length (recordsIn kind width values k) ≡ recordBytes * k
-unfolding recordsIn
-length-recordsIn kind width values k =
-    length-joined k recordBytes _ (λ i l. length-recordOf kind (i / width) (i % width) (getD values i 0))
-
-abbrev pub WrittenTo : List ℕ → ℕ → ℕ → ℕ → List ℕ → ℕ → List ℕ → Type 0
-WrittenTo before start kind width values k after =
-    after ≡ take (recordBytes * start) before ++ (recordsIn kind width values k ++ drop (recordBytes * (start + k)) before)
-
-module _ (before : List ℕ) (start kind width : ℕ) (values : List ℕ) where
-  pub written-none : WrittenTo before start kind width values 0 before
-  unfolding recordsIn joined
-  written-none =
-      let same : start + 0 ≡ start = omega arith in
-      rw same (sym (take-append-drop (recordBytes * start) before))
-
-  module _ (k : ℕ) {output : List ℕ} (room : recordBytes * (start + k) ≤ length before) (e : WrittenTo before start kind width values k output) where
-    -- what is written, and what stands after it
-    front : List ℕ
-    front = take (recordBytes * start) before ++ recordsIn kind width values k
-
-    front-long : length front ≡ recordBytes * (start + k)
-    unfolding front
-    front-long =
-        length-append (take (recordBytes * start) before) (recordsIn kind width values k)
-        ∙ omega (
-          arith,
-          length-take-le (recordBytes * start) before (omega arith),
-          length-recordsIn kind width values k,
-        )
-
-    output-is : output ≡ front ++ drop (recordBytes * (start + k)) before
-    unfolding front
-    output-is = e ∙ sym (append-assoc (take (recordBytes * start) before) (recordsIn kind width values k) (drop (recordBytes * (start + k)) before))
-
-    pub written-long : length output ≡ length before
-    written-long =
-        ap length output-is ∙ length-append front (drop (recordBytes * (start + k)) before)
-        ∙ omega (arith, front-long, length-drop (recordBytes * (start + k)) before)
-
-    pub written-more : {row column : ℕ} {part : List ℕ} → Position width k row column
-        → part ≡ recordOf kind row column (getD values k 0)
-        → WrittenTo before start kind width values (k + 1)
-        (take (recordBytes * (start + k)) output
-        ++ (part ++ drop (recordBytes * (start + k) + recordBytes - recordBytes * (start + k)) (drop (recordBytes * (start + k)) output)))
-    unfolding front recordsIn
-    written-more {row} {column} {part} at part-is =
-        let n = recordBytes * (start + k) in
-        let head = take (recordBytes * start) before in
-        let later : n + (n + recordBytes - n) ≡ recordBytes * (start + (k + 1)) = omega arith in
-        let next : recordsIn kind width values k ++ part ≡ recordsIn kind width values (k + 1) =
-        sym (joined-more k (λ i. recordOf kind (i / width) (i % width) (getD values i 0)) ∙ rw (row-of at, column-of at, part-is)) in
-        rw (
-          ap (take n) output-is ∙ take-at front (drop n before) n front-long,
-          ap (drop n) output-is ∙ drop-at front (drop n before) n front-long,
-          drop-drop (n + recordBytes - n) n before,
-          later,
-        )
-        (append-assoc head (recordsIn kind width values k) (part ++ drop (recordBytes * (start + (k + 1))) before)
-        ∙ ap (λ x. head ++ x)
-        (sym (append-assoc (recordsIn kind width values k) part (drop (recordBytes * (start + (k + 1))) before))
-        ∙ ap (λ x. x ++ drop (recordBytes * (start + (k + 1))) before) next))
+use Rattle.writer.specs.Laws.Records.{joined-more, joined-add, joined-cong, length-joined, length-recordOf, length-recordsOf, bytes-of-value}
+use Rattle.writer.specs.Laws.Operands.{residueIn, Narrow}
+use Rattle.writer.specs.Laws.Puts.{putAt, put-long, put-none, put-part, put-more, put-both}
+use Rattle.writer.specs.Laws.Sums.{WriteReady, narrow-A, narrow-B, Lines, SumReady, quotientFor, remainderFor, quotient-at, remainder-at}
 
 -- one record
 
-pub record-put : (x : List ℕ) → length x ≡ recordBytes → (kind row column value : ℕ)
-    → sets x 0 (recordOf kind row column value) ≡ recordOf kind row column value
-record-put x e kind row column value =
-    let written = recordOf kind row column value in
-    let long : length written ≡ recordBytes = length-recordOf kind row column value in
-    sets-eq written x 0 (omega (arith, long))
-    ∙ ap (λ y. written ++ y) (drop-of-length-le x {i = 0 + length written} (omega (arith, long))) ∙ append-nil written
+unfoldable pub wordsOf : ℕ → ℕ → List ℕ
+wordsOf header value =
+    header % 256
+    ∷ header / 256 % 256
+    ∷ header / 65_536 % 256
+    ∷ header / 16_777_216 % 256
+    ∷ value % 256
+    ∷ value / 256 % 256
+    ∷ value / 65_536 % 256
+    ∷ value / 16_777_216 % 256
+    ∷ []
 
--- the parts
+abbrev pub headerOf : ℕ → ℕ → ℕ → ℕ
+headerOf kind row column = kind + 256 * 0 + 65_536 * row + 16_777_216 * column
 
-pub part-values : (P : Part) (f : ℕ → ℕ → ℤ) (values : List ℕ) {n : ℕ} → n ≡ P .rows * P .columns
-    → ((c : ℕ) → c < n → getD values c 0 ≡ leastResidue modulus (f (c / P .columns) (c % P .columns)))
-    → recordsIn (P .kind) (P .columns) values n ≡ recordsOf P f
-unfolding recordsIn recordsOf
-part-values P f values {n} e each =
-    joined-cong n _ _ (λ c l. ap (recordOf (P .kind) (c / P .columns) (c % P .columns)) (each c l))
-    ∙ ap (λ m. joined m (λ c. recordOf (P .kind) (c / P .columns) (c % P .columns) (leastResidue modulus (f (c / P .columns) (c % P .columns))))) e
+pub words-record : (kind row column value : ℕ) {header : ℕ} → kind < 256 → row < 256 → column < 256 → header ≡ headerOf kind row column
+    → wordsOf header value ≡ recordOf kind row column value
+unfolding wordsOf recordOf
+words-record kind row column value {header} k i j e =
+    let bytes = bytes-of-value kind 0 row column k (omega arith) i j in
+    ap (λ h. wordsOf h value) e ∙ rw (← bytes .0, ← bytes .1, ← bytes .2, ← bytes .3)
 
-pub record Begins (before written : List ℕ) (start : ℕ) (output : List ℕ) : Type 0 where
-  pub long : length written ≡ recordBytes * start
-  pub is : output ≡ written ++ drop (recordBytes * start) before
+pub length-words : (header value : ℕ) → length (wordsOf header value) ≡ recordBytes
+unfolding wordsOf
+length-words header value = refl
 
-pub begins-none : (before : List ℕ) → Begins before [] 0 before
-begins-none before = record { long = omega arith; is = refl }
+pub words-put : (x : List ℕ) → length x ≡ recordBytes → (header value : ℕ) → sets x 0 (wordsOf header value) ≡ wordsOf header value
+unfolding wordsOf
+words-put x e header value =
+    let written = wordsOf header value in
+    sets-eq written x 0 (omega arith)
+    ∙ ap (λ y. written ++ y) (drop-of-length-le x {i = 0 + length written} (omega arith)) ∙ append-nil written
 
-module _ {before written output : List ℕ} {start : ℕ} (begins : Begins before written start output) where
-  pub begins-long : recordBytes * start ≤ length before → length output ≡ length before
-  begins-long room =
-      ap length (begins .is) ∙ length-append written (drop (recordBytes * start) before)
-      ∙ omega (arith, begins .long, length-drop (recordBytes * start) before)
+-- rows and parts
 
-  begins-more : (n : ℕ) (part : List ℕ) {next : List ℕ} → length part ≡ recordBytes * n
-      → next ≡ take (recordBytes * start) output ++ (part ++ drop (recordBytes * (start + n)) output)
-      → Begins before (written ++ part) (start + n) next
-  begins-more n part {next} long is =
-      let s = recordBytes * start in
-      let later : recordBytes * (start + n) ≡ s + recordBytes * n = omega arith in
+unfoldable pub lineRecords : ℕ → ℕ → (ℕ → ℕ) → ℕ → List ℕ
+lineRecords kind row f n = joined n (λ j. recordOf kind row j (f j))
+
+unfoldable pub recordsTo : ℕ → ℕ → (ℕ → ℕ) → ℕ → List ℕ
+recordsTo kind width f n = joined n (λ c. recordOf kind (c / width) (c % width) (f c))
+
+pub length-line : (kind row : ℕ) (f : ℕ → ℕ) (n : ℕ) → length (lineRecords kind row f n) ≡ recordBytes * n
+unfolding lineRecords
+length-line kind row f n = length-joined n recordBytes _ (λ j l. length-recordOf kind row j (f j))
+
+pub length-part : (kind width : ℕ) (f : ℕ → ℕ) (n : ℕ) → length (recordsTo kind width f n) ≡ recordBytes * n
+unfolding recordsTo
+length-part kind width f n = length-joined n recordBytes _ (λ c l. length-recordOf kind (c / width) (c % width) (f c))
+
+line-more : (kind row : ℕ) (f : ℕ → ℕ) (n : ℕ)
+    → lineRecords kind row f n ++ recordOf kind row n (f n) ≡ lineRecords kind row f (n + 1)
+unfolding lineRecords
+line-more kind row f n = sym (joined-more n (λ j. recordOf kind row j (f j)))
+
+part-more : (kind width : ℕ) (f g : ℕ → ℕ) (row : ℕ) → ((j : ℕ) → j < width → g j ≡ f (row * width + j))
+    → recordsTo kind width f (row * width) ++ lineRecords kind row g width ≡ recordsTo kind width f ((row + 1) * width)
+unfolding recordsTo lineRecords
+part-more kind width f g row same =
+    let next : (row + 1) * width ≡ row * width + width = omega arith in
+    let at : ℕ → List ℕ = λ c. recordOf kind (c / width) (c % width) (f c) in
+    ap (λ x. joined (row * width) at ++ x)
+    (joined-cong width _ _ (λ j l. rw (digits-div row l, digits-mod row l, same j l) refl))
+    ∙ sym (ap (λ n. joined n at) next ∙ joined-add (row * width) width at)
+
+-- the records of an operand
+
+pub record LineReady (output : List ℕ) (start : ℕ) (entries : List ℤ) : Type 0 where
+  pub wide : length entries ≤ 64
+  pub narrow : Narrow entries
+  pub room : recordBytes * (start + length entries) ≤ length output
+
+pub record PartReady (output : List ℕ) (start height width : ℕ) (operand : List ℤ) : Type 0 where
+  pub high : height ≤ 64
+  pub wide : width ≤ 64
+  pub count : length operand ≡ height * width
+  pub narrow : Narrow operand
+  pub room : recordBytes * (start + height * width) ≤ length output
+
+-- n records from record start on
+module _ (before : List ℕ) (start n : ℕ) (bytes : List ℕ) (long : length bytes ≡ recordBytes * n)
+    (room : recordBytes * (start + n) ≤ length before) {output : List ℕ} (is : output ≡ putAt before (recordBytes * start) bytes) where
+  pub records-long : length output ≡ length before
+  records-long = ap length is ∙ put-long before (recordBytes * start) bytes (omega (arith, long))
+
+  records-more : (more : List ℕ) → putAt output (recordBytes * (start + n)) more ≡ putAt before (recordBytes * start) (bytes ++ more)
+  records-more more =
+      ap (λ x. putAt x (recordBytes * (start + n)) more) is
+      ∙ put-more before (recordBytes * start) bytes more (omega (arith, long)) (omega arith)
+
+pub line-put : (before : List ℕ) (start kind row : ℕ) (f : ℕ → ℕ) (n : ℕ) {output part : List ℕ}
+    → recordBytes * (start + n) ≤ length before → output ≡ putAt before (recordBytes * start) (lineRecords kind row f n)
+    → part ≡ recordOf kind row n (f n)
+    → take (recordBytes * (start + n)) output
+    ++ (part ++ drop (recordBytes * (start + n) + recordBytes - recordBytes * (start + n)) (drop (recordBytes * (start + n)) output))
+    ≡ putAt before (recordBytes * start) (lineRecords kind row f (n + 1))
+line-put before start kind row f n {output} {part} room is part-is =
+    put-part output (recordBytes * (start + n)) part (ap length part-is ∙ length-recordOf kind row n (f n))
+    ∙ records-more before start n (lineRecords kind row f n) (length-line kind row f n) room is part
+    ∙ ap (putAt before (recordBytes * start)) (ap (λ x. lineRecords kind row f n ++ x) part-is ∙ line-more kind row f n)
+
+pub part-put : (before : List ℕ) (start kind width : ℕ) (f g : ℕ → ℕ) (row : ℕ) {output next : List ℕ}
+    → recordBytes * (start + row * width) ≤ length before
+    → output ≡ putAt before (recordBytes * start) (recordsTo kind width f (row * width))
+    → ((j : ℕ) → j < width → g j ≡ f (row * width + j))
+    → next ≡ putAt output (recordBytes * (start + row * width)) (lineRecords kind row g width)
+    → next ≡ putAt before (recordBytes * start) (recordsTo kind width f ((row + 1) * width))
+part-put before start kind width f g row room is same next-is =
+    next-is
+    ∙ records-more before start (row * width) (recordsTo kind width f (row * width)) (length-part kind width f (row * width)) room is
+    (lineRecords kind row g width)
+    ∙ ap (putAt before (recordBytes * start)) (part-more kind width f g row same)
+
+-- the claims
+
+abbrev pub rowQuotient : Setting → List ℤ → List ℤ → ℕ → ℕ
+rowQuotient G x Y j = quotientFor G (dotProduct x (lineOf Y (G .inner) j))
+
+abbrev pub rowRemainder : Setting → List ℤ → List ℤ → ℕ → ℕ
+rowRemainder G x Y j = remainderFor G (dotProduct x (lineOf Y (G .inner) j))
+
+unfoldable pub lineClaims : Setting → List ℤ → List ℤ → ℕ → ℕ → ℕ → ℕ → List ℕ → List ℕ
+lineClaims G x Y row q r n output =
+    putAt (putAt output (recordBytes * q) (lineRecords 3 row (rowQuotient G x Y) n)) (recordBytes * r)
+    (lineRecords 4 row (rowRemainder G x Y) n)
+
+abbrev pub quotientsFrom : Setting → ℕ
+quotientsFrom G = G .rows * G .inner + G .inner * G .columns
+
+abbrev pub remaindersFrom : Setting → ℕ
+remaindersFrom G = quotientsFrom G + G .rows * G .columns
+
+unfoldable pub claimsTo : Setting → List ℤ → List ℤ → ℕ → List ℕ → List ℕ
+claimsTo G X Y n output =
+    putAt
+    (putAt output (recordBytes * quotientsFrom G)
+    (recordsTo 3 (G .columns) (λ c. rowQuotient G (lineOf X (G .inner) (c / G .columns)) Y (c % G .columns)) n))
+    (recordBytes * remaindersFrom G)
+    (recordsTo 4 (G .columns) (λ c. rowRemainder G (lineOf X (G .inner) (c / G .columns)) Y (c % G .columns)) n)
+
+pub record RowReady (G : Setting) (half : ℕ) (Y : List ℤ) (q r : ℕ) (output : List ℕ) : Type 0 where
+  pub counts : Counts G
+  pub numbers : Numbers G
+  pub fitted : Fitted G
+  pub half-is : half ≡ powerOfTwo (G .width - 1)
+  pub lines : G .inner * G .columns ≤ length Y
+  pub apart : q + G .columns ≤ r
+  pub early : r ≤ 2 ^ 16
+  pub room : recordBytes * (r + G .columns) ≤ length output
+
+pub record ClaimsReady (G : Setting) (X Y : List ℤ) (output : List ℕ) : Type 0 where
+  pub counts : Counts G
+  pub numbers : Numbers G
+  pub fitted : Fitted G
+  pub lines : Lines G X Y
+  pub room : recordBytes * (remaindersFrom G + G .rows * G .columns) ≤ length output
+
+-- n records from record q on, and n from record r on
+module _ (before : List ℕ) (q r n : ℕ) (p p' : List ℕ) (long : length p ≡ recordBytes * n) (long' : length p' ≡ recordBytes * n)
+    (apart : q + n ≤ r) (room : recordBytes * (r + n) ≤ length before) {output : List ℕ}
+    (is : output ≡ putAt (putAt before (recordBytes * q) p) (recordBytes * r) p') where
+  both-long : length output ≡ length before
+  both-long =
+      let first : length (putAt before (recordBytes * q) p) ≡ length before = put-long before (recordBytes * q) p (omega (arith, long)) in
+      ap length is ∙ put-long (putAt before (recordBytes * q) p) (recordBytes * r) p' (omega (arith, long')) ∙ first
+
+  both-more : (x x' : List ℕ) → recordBytes * (q + n) + length x ≤ recordBytes * r
+      → putAt (putAt output (recordBytes * (q + n)) x) (recordBytes * (r + n)) x'
+      ≡ putAt (putAt before (recordBytes * q) (p ++ x)) (recordBytes * r) (p' ++ x')
+  both-more x x' fits =
+      ap (λ o. putAt (putAt o (recordBytes * (q + n)) x) (recordBytes * (r + n)) x') is
+      ∙ put-both before (recordBytes * q) p (recordBytes * r) p' x x' (omega (arith, long)) (omega (arith, long')) fits (omega (arith, long'))
+
+pub line-claims-none : (G : Setting) (x Y : List ℤ) (row q r : ℕ) (before : List ℕ) → before ≡ lineClaims G x Y row q r 0 before
+unfolding lineClaims lineRecords joined
+line-claims-none G x Y row q r before =
+    sym (put-none (putAt before (recordBytes * q) []) (recordBytes * r) ∙ put-none before (recordBytes * q))
+
+pub claims-none : (G : Setting) (X Y : List ℤ) (before : List ℕ) → before ≡ claimsTo G X Y 0 before
+unfolding claimsTo recordsTo joined
+claims-none G X Y before =
+    sym (put-none (putAt before (recordBytes * quotientsFrom G) []) (recordBytes * remaindersFrom G)
+    ∙ put-none before (recordBytes * quotientsFrom G))
+
+pub line-claims-long : (G : Setting) (x Y : List ℤ) (row q r n : ℕ) (before : List ℕ) {output : List ℕ} → q + n ≤ r
+    → recordBytes * (r + n) ≤ length before → output ≡ lineClaims G x Y row q r n before → length output ≡ length before
+unfolding lineClaims
+line-claims-long G x Y row q r n before apart room is =
+    both-long before q r n (lineRecords 3 row (rowQuotient G x Y) n) (lineRecords 4 row (rowRemainder G x Y) n)
+    (length-line 3 row (rowQuotient G x Y) n) (length-line 4 row (rowRemainder G x Y) n) apart room is
+
+pub claims-long : (G : Setting) (X Y : List ℤ) (n : ℕ) (before : List ℕ) {output : List ℕ} → n ≤ G .rows * G .columns
+    → recordBytes * (remaindersFrom G + G .rows * G .columns) ≤ length before → output ≡ claimsTo G X Y n before
+    → length output ≡ length before
+unfolding claimsTo
+claims-long G X Y n before few room is =
+    both-long before (quotientsFrom G) (remaindersFrom G) n _ _ (length-part 3 (G .columns) _ n) (length-part 4 (G .columns) _ n)
+    (omega arith) (omega arith) is
+
+pub claim-put : (G : Setting) (x Y : List ℤ) (row q r n : ℕ) (before : List ℕ) {output first part part' : List ℕ}
+    → q + (n + 1) ≤ r → recordBytes * (r + n) ≤ length before → output ≡ lineClaims G x Y row q r n before
+    → part ≡ recordOf 3 row n (rowQuotient G x Y n) → part' ≡ recordOf 4 row n (rowRemainder G x Y n)
+    → first
+    ≡ take (recordBytes * (q + n)) output
+    ++ (part ++ drop (recordBytes * (q + n) + recordBytes - recordBytes * (q + n)) (drop (recordBytes * (q + n)) output))
+    → take (recordBytes * (r + n)) first
+    ++ (part' ++ drop (recordBytes * (r + n) + recordBytes - recordBytes * (r + n)) (drop (recordBytes * (r + n)) first))
+    ≡ lineClaims G x Y row q r (n + 1) before
+unfolding lineClaims
+claim-put G x Y row q r n before {output} {first} {part} {part'} apart room is part-is part-is' first-is =
+    let long : length part ≡ recordBytes = ap length part-is ∙ length-recordOf 3 row n (rowQuotient G x Y n) in
+    let long' : length part' ≡ recordBytes = ap length part-is' ∙ length-recordOf 4 row n (rowRemainder G x Y n) in
+    put-part first (recordBytes * (r + n)) part' long'
+    ∙ ap (λ o. putAt o (recordBytes * (r + n)) part') (first-is ∙ put-part output (recordBytes * (q + n)) part long)
+    ∙ both-more before q r n (lineRecords 3 row (rowQuotient G x Y) n) (lineRecords 4 row (rowRemainder G x Y) n)
+    (length-line 3 row (rowQuotient G x Y) n) (length-line 4 row (rowRemainder G x Y) n) (omega arith) room is part part' (omega (arith, long))
+    ∙ rw (
+      part-is,
+      part-is',
+      line-more 3 row (rowQuotient G x Y) n,
+      line-more 4 row (rowRemainder G x Y) n,
+    )
+
+pub claims-put : (G : Setting) (X Y : List ℤ) (row : ℕ) (before : List ℕ) {output next : List ℕ} → row < G .rows
+    → recordBytes * (remaindersFrom G + G .rows * G .columns) ≤ length before → output ≡ claimsTo G X Y (row * G .columns) before
+    → next ≡ lineClaims G (lineOf X (G .inner) row) Y row (quotientsFrom G + row * G .columns) (remaindersFrom G + row * G .columns) (G .columns) output
+    → next ≡ claimsTo G X Y ((row + 1) * G .columns) before
+unfolding claimsTo lineClaims
+claims-put G X Y row before l room is next-is =
+    let n = row * G .columns in
+    let quotient : ℕ → ℕ = λ c. rowQuotient G (lineOf X (G .inner) (c / G .columns)) Y (c % G .columns) in
+    let remainder : ℕ → ℕ = λ c. rowRemainder G (lineOf X (G .inner) (c / G .columns)) Y (c % G .columns) in
+    let within : n + G .columns ≤ G .rows * G .columns = row-inside (G .columns) l in
+    next-is
+    ∙ both-more before (quotientsFrom G) (remaindersFrom G) n (recordsTo 3 (G .columns) quotient n) (recordsTo 4 (G .columns) remainder n)
+    (length-part 3 (G .columns) quotient n) (length-part 4 (G .columns) remainder n) (omega arith) (omega arith) is
+    (lineRecords 3 row (rowQuotient G (lineOf X (G .inner) row) Y) (G .columns))
+    (lineRecords 4 row (rowRemainder G (lineOf X (G .inner) row) Y) (G .columns))
+    (omega (arith, length-line 3 row (rowQuotient G (lineOf X (G .inner) row) Y) (G .columns)))
+    ∙ rw (
+      part-more 3 (G .columns) quotient (rowQuotient G (lineOf X (G .inner) row) Y) row (λ j h. rw (digits-div row h, digits-mod row h)),
+      part-more 4 (G .columns) remainder (rowRemainder G (lineOf X (G .inner) row) Y) row (λ j h. rw (digits-div row h, digits-mod row h)),
+    )
+
+-- the parts of the ticket
+
+pub part-values : (P : Part) (f : ℕ → ℕ → ℤ) (value : ℕ → ℕ)
+    → ((i j : ℕ) → i < P .rows → j < P .columns → value (i * P .columns + j) ≡ leastResidue modulus (f i j))
+    → recordsTo (P .kind) (P .columns) value (P .rows * P .columns) ≡ recordsOf P f
+unfolding recordsTo recordsOf
+part-values P f value each =
+    joined-cong (P .rows * P .columns) _ _ (λ c l.
+    ap (recordOf (P .kind) (c / P .columns) (c % P .columns))
+    (ap value (sym (div-add-mod' c (P .columns)))
+    ∙ each (c / P .columns) (c % P .columns) (inside c l .0) (inside c l .1)))
+  where
+    inside : (c : ℕ) → c < P .rows * P .columns → (c / P .columns < P .rows) × (c % P .columns < P .columns)
+    inside c l =
+        elim (decLe 1 (P .columns)) [
+          | yes h ↦ (div-lt-iff-lt-mul h .1 l, mod-lt c h)
+          | no h ↦
+              let none : P .columns ≡ 0 = omega arith in
+              absurd (omega (arith, ap (λ n. P .rows * n) none))
+        ]
+
+unfoldable pub claimsOf : Setting → List ℤ → List ℤ → List ℕ → List ℕ
+claimsOf G A B output =
+    putAt (putAt output (recordBytes * quotientsFrom G) (recordsOf (quotients G) (quotientOf G A B))) (recordBytes * remaindersFrom G)
+    (recordsOf (remainders G) (remainderOf G A B))
+
+pub claims-written : {G : Setting} {A B X Y : List ℤ} → WriteReady G A B → SumReady G A B X Y → (output : List ℕ)
+    → claimsTo G X Y (G .rows * G .columns) output ≡ claimsOf G A B output
+unfolding claimsTo claimsOf quotients remainders
+claims-written {G} {A} {B} {X} {Y} ready sums output =
+    rw (
+      part-values (quotients G) (quotientOf G A B) (λ c. rowQuotient G (lineOf X (G .inner) (c / G .columns)) Y (c % G .columns))
+          (λ i j l m. rw (digits-div i m, digits-mod i m) (quotient-at ready sums l m)),
+      part-values (remainders G) (remainderOf G A B) (λ c. rowRemainder G (lineOf X (G .inner) (c / G .columns)) Y (c % G .columns))
+          (λ i j l m. rw (digits-div i m, digits-mod i m) (remainder-at ready sums l m)),
+    )
+
+-- four parts, one after the other
+four-put : (before a b c d : List ℕ) {s t u n : ℕ} → s ≡ length a → t ≡ length a + length b → u ≡ t + length c → n ≡ u + length d
+    → putAt (putAt (putAt (putAt before 0 a) s b) t c) u d ≡ (a ++ b ++ c ++ d) ++ drop n before
+unfolding putAt
+four-put before a b c d {s} {t} {u} {n} s-is t-is u-is n-is =
+    let end : 0 + length (a ++ b ++ c ++ d) ≡ n = simp length-append (omega arith) in
+    ap (λ o. putAt (putAt o t c) u d) (put-more before 0 a b {next = s} (omega arith) (omega arith))
+    ∙ ap (λ o. putAt o u d) (put-more before 0 (a ++ b) c {next = t} (simp length-append (omega arith)) (omega arith))
+    ∙ put-more before 0 (a ++ b ++ c) d {next = u} (simp length-append (omega arith)) (omega arith)
+    ∙ ap (λ m. (a ++ b ++ c ++ d) ++ drop m before) end
+
+module _ (G : Setting) (A B : List ℤ) (before : List ℕ) {o1 o2 o3 : List ℕ}
+    (of-A : o1 ≡ putAt before (recordBytes * 0) (recordsTo 1 (G .inner) (residueIn A) (G .rows * G .inner)))
+    (of-B : o2 ≡ putAt o1 (recordBytes * (G .rows * G .inner)) (recordsTo 2 (G .columns) (residueIn B) (G .inner * G .columns)))
+    (of-claims : o3 ≡ claimsOf G A B o2) where
+  pub ticket-written : o3 ≡ ticketOf G A B ++ drop (ticketLength G) before
+  unfolding claimsOf ticketOf ticketLength records partA partB quotients remainders
+  ticket-written =
+      of-claims
+      ∙ ap (λ o. putAt (putAt o (recordBytes * quotientsFrom G) (recordsOf (quotients G) (quotientOf G A B))) (recordBytes * remaindersFrom G) (recordsOf (remainders G) (remainderOf G A B)))
+      (of-B ∙ ap (λ o. putAt o (recordBytes * (G .rows * G .inner)) (recordsTo 2 (G .columns) (residueIn B) (G .inner * G .columns))) of-A
+      ∙ rw (
+        part-values (partA G) (entryOf (G .inner) A) (residueIn A) (λ i j l m. refl),
+        part-values (partB G) (entryOf (G .columns) B) (residueIn B) (λ i j l m. refl),
+      ))
+      ∙ four-put before (recordsOf (partA G) (entryOf (G .inner) A)) (recordsOf (partB G) (entryOf (G .columns) B))
+      (recordsOf (quotients G) (quotientOf G A B)) (recordsOf (remainders G) (remainderOf G A B)) {n = ticketLength G}
+      (sym (length-recordsOf (partA G) (entryOf (G .inner) A)))
+      (omega (arith, length-recordsOf (partA G) (entryOf (G .inner) A), length-recordsOf (partB G) (entryOf (G .columns) B)))
+      (omega (arith, length-recordsOf (quotients G) (quotientOf G A B)))
+      (omega (arith, length-recordsOf (remainders G) (remainderOf G A B)))
+
+-- what the calls ask for
+
+module _ {G : Setting} {A B : List ℤ} (ready : WriteReady G A B) {output : List ℕ} (room : ticketLength G ≤ length output) where
+  pub ready-A : PartReady output 0 (G .rows) (G .inner) A
+  ready-A =
       record {
-        long = length-append written part ∙ omega (arith, begins .long, long);
-        is =
-            is ∙ rw (
-              ap (take s) (begins .is) ∙ take-at written (drop s before) s (begins .long),
-              ap (λ m. drop m output) later ∙ sym (drop-drop (recordBytes * n) s output)
-                  ∙ ap (drop (recordBytes * n)) (ap (drop s) (begins .is) ∙ drop-at written (drop s before) s (begins .long))
-                  ∙ drop-drop (recordBytes * n) s before ∙ ap (λ m. drop m before) (sym later),
-            )
-            (sym (append-assoc written part (drop (recordBytes * (start + n)) before)));
+        high = omega (arith, ready .counts .sizes .rows);
+        wide = omega (arith, ready .counts .sizes .inner);
+        count = ready .long-A;
+        narrow = narrow-A ready;
+        room = omega (arith, length-is G);
       }
 
-  pub part-written : (P : Part) (f : ℕ → ℕ → ℤ) (values : List ℕ) {next : List ℕ} → length values ≡ P .rows * P .columns
-      → ((c : ℕ) → c < length values → getD values c 0 ≡ leastResidue modulus (f (c / P .columns) (c % P .columns)))
-      → next
-      ≡ take (recordBytes * start) output
-      ++ (recordsIn (P .kind) (P .columns) values (length values) ++ drop (recordBytes * (start + length values)) output)
-      → Begins before (written ++ recordsOf P f) (start + P .rows * P .columns) next
-  part-written P f values long each is =
-      begins-more (P .rows * P .columns) (recordsOf P f) (length-recordsOf P f) (rw (part-values P f values long each, long) at is)
-
--- the four parts of a ticket, as the code writes them
-
-module _ (X : List ℤ) {values : List ℕ} (filled : Filled 0 mostEntries (length X) (residueIn X) values) (n : ℕ) (long : length X ≡ n)
-    (few : n ≤ mostEntries) where
-  pub operand-long : length (take n values) ≡ n
-  operand-long = length-take-le n values (omega (arith, filled .long))
-
-  operand-values : (width c : ℕ) → c < length (take n values)
-      → getD (take n values) c 0 ≡ leastResidue modulus (entryOf width X (c / width) (c % width))
-  operand-values width c l =
-      let m : c < n = omega (arith, operand-long) in
-      getD-take n values c 0 m ∙ filled .each c (omega (arith, long))
-      ∙ ap (λ k. leastResidue modulus (getD X k (pos 0))) (sym (div-add-mod' c width))
-
-module _ {G : Setting} {A B : List ℤ} (ready : WriteReady G A B) (before : List ℕ) (room : ticketLength G ≤ length before) where
-  room-is : recordBytes * (G .rows * G .inner + G .inner * G .columns + 2 * (G .rows * G .columns)) ≤ length before
-  unfolding ticketLength records
-  room-is = room
-
-  -- a part of h rows and w columns has room from record start on
-  room-for : {output : List ℕ} (start height width : ℕ) (values : List ℕ) → length output ≡ length before → 1 ≤ width
-      → length values ≡ height * width → height ≤ 64 → width ≤ 64 → length values ≤ 4096 → start ≤ 8192
-      → recordBytes * (start + height * width) ≤ length before → RoomFor output start width values
-  room-for start height width values same positive long high wide few early fits =
+  pub ready-B : PartReady output (G .rows * G .inner) (G .inner) (G .columns) B
+  ready-B =
       record {
-        height = height;
-        columns = positive;
-        count = long;
-        high = high;
-        wide = wide;
-        few = few;
-        early = early;
-        room = omega (arith, same, long);
+        high = omega (arith, ready .counts .sizes .inner);
+        wide = omega (arith, ready .counts .sizes .columns);
+        count = ready .long-B;
+        narrow = narrow-B ready;
+        room = omega (arith, length-is G);
       }
 
-  module _ {av : List ℕ} (a-filled : Filled 0 mostEntries (length A) (residueIn A) av) where
-    long-a : length (take (G .rows * G .inner) av) ≡ G .rows * G .inner
-    long-a = operand-long A a-filled (G .rows * G .inner) (ready .long-A) (omega (arith, ready .counts))
-
-    pub room-A : RoomFor before 0 (G .inner) (take (G .rows * G .inner) av)
-    room-A =
-        room-for 0 (G .rows) (G .inner) (take (G .rows * G .inner) av) refl (omega (arith, ready .counts .sizes .inner)) long-a
-        (omega (arith, ready .counts .sizes .rows)) (omega (arith, ready .counts .sizes .inner)) (omega (arith, long-a, ready .counts))
-        (omega arith) (omega (arith, room-is))
-
-    pub begins-A : {o1 : List ℕ}
-        → o1 ≡ take (recordBytes * 0) before ++ (recordsIn 1 (G .inner) (take (G .rows * G .inner) av) (length (take (G .rows * G .inner) av)) ++ drop (recordBytes * (0 + length (take (G .rows * G .inner) av))) before)
-        → Begins before ([] ++ recordsOf (partA G) (entryOf (G .inner) A)) (G .rows * G .inner) o1
-    unfolding partA
-    begins-A {o1} e =
-        let same : 0 + G .rows * G .inner ≡ G .rows * G .inner = omega arith in
-        subst (λ n. Begins before ([] ++ recordsOf (partA G) (entryOf (G .inner) A)) n o1) same
-        (part-written (begins-none before) (partA G) (entryOf (G .inner) A) (take (G .rows * G .inner) av) long-a
-        (operand-values A a-filled (G .rows * G .inner) (ready .long-A) (omega (arith, ready .counts)) (G .inner)) e)
-
-  module _ {o1 w1 : List ℕ} (begun : Begins before w1 (G .rows * G .inner) o1) {bv : List ℕ}
-      (b-filled : Filled 0 mostEntries (length B) (residueIn B) bv) where
-    long-b : length (take (G .inner * G .columns) bv) ≡ G .inner * G .columns
-    long-b = operand-long B b-filled (G .inner * G .columns) (ready .long-B) (omega (arith, ready .counts))
-
-    pub room-B : RoomFor o1 (G .rows * G .inner) (G .columns) (take (G .inner * G .columns) bv)
-    room-B =
-        room-for (G .rows * G .inner) (G .inner) (G .columns) (take (G .inner * G .columns) bv) (begins-long begun (omega (arith, room-is)))
-        (omega (arith, ready .counts .sizes .columns)) long-b (omega (arith, ready .counts .sizes .inner))
-        (omega (arith, ready .counts .sizes .columns)) (omega (arith, long-b, ready .counts)) (omega (arith, ready .counts))
-        (omega (arith, room-is))
-
-    pub begins-B : {o2 : List ℕ}
-        → o2 ≡ take (recordBytes * (G .rows * G .inner)) o1 ++ (recordsIn 2 (G .columns) (take (G .inner * G .columns) bv) (length (take (G .inner * G .columns) bv)) ++ drop (recordBytes * (G .rows * G .inner + length (take (G .inner * G .columns) bv))) o1)
-        → Begins before (w1 ++ recordsOf (partB G) (entryOf (G .columns) B)) (G .rows * G .inner + G .inner * G .columns) o2
-    unfolding partB
-    begins-B e =
-        part-written begun (partB G) (entryOf (G .columns) B) (take (G .inner * G .columns) bv) long-b
-        (operand-values B b-filled (G .inner * G .columns) (ready .long-B) (omega (arith, ready .counts)) (G .columns)) e
-
-  module _ {cv : List ℕ} (claims : ClaimsIn G A B (G .rows * G .columns) cv) where
-    long-q : length (take (G .rows * G .columns) cv) ≡ G .rows * G .columns
-    long-q = length-take-le (G .rows * G .columns) cv (omega (arith, claims .long, ready .counts))
-
-    -- the second half of the values
-    later : List ℕ
-    later = take (G .rows * G .columns + G .rows * G .columns - G .rows * G .columns) (drop (G .rows * G .columns) cv)
-
-    long-r : length later ≡ G .rows * G .columns
-    unfolding later
-    long-r = part-long cv (G .rows * G .columns) (G .rows * G .columns) (omega (arith, claims .long, ready .counts))
-
-    module _ {o2 w2 : List ℕ} (begun : Begins before w2 (G .rows * G .inner + G .inner * G .columns) o2) where
-      pub room-quotients : RoomFor o2 (G .rows * G .inner + G .inner * G .columns) (G .columns) (take (G .rows * G .columns) cv)
-      room-quotients =
-          room-for (G .rows * G .inner + G .inner * G .columns) (G .rows) (G .columns) (take (G .rows * G .columns) cv)
-          (begins-long begun (omega (arith, room-is))) (omega (arith, ready .counts .sizes .columns)) long-q
-          (omega (arith, ready .counts .sizes .rows)) (omega (arith, ready .counts .sizes .columns)) (omega (arith, long-q, ready .counts))
-          (omega (arith, ready .counts)) (omega (arith, room-is))
-
-      pub begins-quotients : {o3 : List ℕ}
-          → o3 ≡ take (recordBytes * (G .rows * G .inner + G .inner * G .columns)) o2 ++ (recordsIn 3 (G .columns) (take (G .rows * G .columns) cv) (length (take (G .rows * G .columns) cv)) ++ drop (recordBytes * (G .rows * G .inner + G .inner * G .columns + length (take (G .rows * G .columns) cv))) o2)
-          → Begins before (w2 ++ recordsOf (quotients G) (quotientOf G A B)) (G .rows * G .inner + G .inner * G .columns + G .rows * G .columns) o3
-      unfolding quotients
-      begins-quotients e =
-          part-written begun (quotients G) (quotientOf G A B) (take (G .rows * G .columns) cv) long-q
-          (λ c l. let m : c < G .rows * G .columns = omega (arith, long-q) in
-          getD-take (G .rows * G .columns) cv c 0 m ∙ claims .quotients c m) e
-
-    module _ {o3 w3 : List ℕ} (begun : Begins before w3 (G .rows * G .inner + G .inner * G .columns + G .rows * G .columns) o3) where
-      pub room-remainders : RoomFor o3 (G .rows * G .inner + G .inner * G .columns + G .rows * G .columns) (G .columns)
-          (take (G .rows * G .columns + G .rows * G .columns - G .rows * G .columns) (drop (G .rows * G .columns) cv))
-      unfolding later
-      room-remainders =
-          room-for (G .rows * G .inner + G .inner * G .columns + G .rows * G .columns) (G .rows) (G .columns) later
-          (begins-long begun (omega (arith, room-is))) (omega (arith, ready .counts .sizes .columns)) long-r
-          (omega (arith, ready .counts .sizes .rows)) (omega (arith, ready .counts .sizes .columns)) (omega (arith, long-r, ready .counts))
-          (omega (arith, ready .counts)) (omega (arith, room-is))
-
-      pub begins-remainders : {o4 : List ℕ}
-          → o4 ≡ take (recordBytes * (G .rows * G .inner + G .inner * G .columns + G .rows * G .columns)) o3 ++ (recordsIn 4 (G .columns) (take (G .rows * G .columns + G .rows * G .columns - G .rows * G .columns) (drop (G .rows * G .columns) cv)) (length (take (G .rows * G .columns + G .rows * G .columns - G .rows * G .columns) (drop (G .rows * G .columns) cv))) ++ drop (recordBytes * (G .rows * G .inner + G .inner * G .columns + G .rows * G .columns + length (take (G .rows * G .columns + G .rows * G .columns - G .rows * G .columns) (drop (G .rows * G .columns) cv)))) o3)
-          → Begins before (w3 ++ recordsOf (remainders G) (remainderOf G A B)) (G .rows * G .inner + G .inner * G .columns + G .rows * G .columns + G .rows * G .columns) o4
-      unfolding remainders later
-      begins-remainders e =
-          part-written begun (remainders G) (remainderOf G A B) later long-r
-          (λ c l. let m : c < G .rows * G .columns = omega (arith, long-r) in
-          part-of cv (G .rows * G .columns) (G .rows * G .columns) c 0 m ∙ claims .remainders c m) e
-
-pub ticket-written : (G : Setting) (A B : List ℤ) {before output : List ℕ}
-    → Begins before ([] ++ recordsOf (partA G) (entryOf (G .inner) A) ++ recordsOf (partB G) (entryOf (G .columns) B) ++ recordsOf (quotients G) (quotientOf G A B) ++ recordsOf (remainders G) (remainderOf G A B))
-    (G .rows * G .inner + G .inner * G .columns + G .rows * G .columns + G .rows * G .columns) output
-    → output ≡ ticketOf G A B ++ drop (ticketLength G) before
-unfolding ticketOf ticketLength records
-ticket-written G A B {before} begins =
-    let same : recordBytes * (G .rows * G .inner + G .inner * G .columns + G .rows * G .columns + G .rows * G .columns)
-    ≡ recordBytes * (G .rows * G .inner + G .inner * G .columns + 2 * (G .rows * G .columns)) = omega arith in
-    begins .is ∙ ap (λ n. ticketOf G A B ++ drop n before) same
+  pub ready-claims : {X Y : List ℤ} → SumReady G A B X Y → ClaimsReady G X Y output
+  ready-claims sums =
+      record {
+        counts = ready .counts;
+        numbers = ready .numbers;
+        fitted = ready .fitted;
+        lines = sums .lines;
+        room = omega (arith, length-is G);
+      }
 
 -- the whole call
 

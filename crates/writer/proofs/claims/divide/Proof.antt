@@ -2,7 +2,7 @@ use native.Mathlib.Omega.{arith}
 use Rattle.residue.specs.Laws.Modulus.{modulus-is}
 use Rattle.ticket.specs.Laws.Lifts.{lift-by-half, lift-small}
 use Rattle.ticket.specs.Laws.Limits.{half-of}
-use Rattle.writer.specs.Laws.Sums.{claim-low, claim-high}
+use Rattle.writer.specs.Laws.Sums.{quotient-low, quotient-high, remainder-made}
 use borrow.Author.Needs.{needs}
 use Rattle.writer.proofs.claims.divide.Statement.{statement}
 use Rattle.writer.proofs.claims.divide.Tie as tie
@@ -26,10 +26,10 @@ add-t10 : tie.Need-add-t10
 add-t10 c = search needs
 
 returns : tie.Need-returns
-returns c = λ S small sum-is. claim-low (c .before .before .before .before .before .pre .0) (c .before .before .before .before .before .pre .1) (c .before .before .before .before .before .pre .2) (c .before .before .before .wrapping-add-u32 .ensures) S small sum-is (c .if1 .taken)
+returns c = (quotient-low (c .before .before .before .before .before .pre .0) (c .before .before .before .before .before .pre .1) _ (c .before .before .before .before .before .pre .2) (c .before .before .before .wrapping-add-u32 .ensures) (c .if1 .taken), remainder-made (c .before .before .before .before .before .pre .0) (c .before .before .before .before .before .pre .1) _ (c .before .before .before .before .before .pre .2) (c .before .before .before .wrapping-add-u32 .ensures))
 
 returns-2 : tie.Need-returns-2
-returns-2 c = λ S small sum-is. claim-high (c .before .before .before .before .before .pre .0) (c .before .before .before .before .before .pre .1) (c .before .before .before .before .before .pre .2) (c .before .before .before .wrapping-add-u32 .ensures) S small sum-is (c .if1 .left)
+returns-2 c = (quotient-high (c .before .before .before .before .before .pre .0) (c .before .before .before .before .before .pre .1) _ (c .before .before .before .before .before .pre .2) (c .before .before .before .wrapping-add-u32 .ensures) (c .if1 .left), remainder-made (c .before .before .before .before .before .pre .0) (c .before .before .before .before .before .pre .1) _ (c .before .before .before .before .before .pre .2) (c .before .before .before .wrapping-add-u32 .ensures))
 
 pub divide-spec : {M : Type 1} → statement M
 divide-spec =

@@ -5,12 +5,12 @@ use lib.IntN.{pos}
 use lib.ListN.{length, getD}
 use Rattle.residue.specs.Laws.Signed.{narrowed-fits}
 use Rattle.ticket.specs.Laws.Fills.{Filled, filled-none, filled-more}
-use Rattle.writer.specs.Laws.Operands.{mostEntries, entryIn, narrow-stored}
+use Rattle.writer.specs.Laws.Operands.{entryIn, narrow-stored}
 use Rattle.writer.proofs.operands.rows.Statement.{statement}
 use Rattle.writer.proofs.operands.rows.Tie as tie
 
 abbrev Inv-loop : tie.InvT-loop
-Inv-loop operand list₀ k₀ list k = (k ≤ length operand) × Filled (pos 0) mostEntries k (entryIn operand) list
+Inv-loop operand list₀ k₀ list k = (k ≤ length operand) × Filled (pos 0) (length list₀) k (entryIn operand) list
 
 abbrev μ-loop : tie.MeasureT-loop
 μ-loop operand list₀ k₀ list k = length operand - k
@@ -25,13 +25,13 @@ shared-slice-copy-out-list : tie.Need-shared-slice-copy-out-list Inv-loop μ-loo
 shared-slice-copy-out-list c = omega arith
 
 cast-list : tie.Need-cast-list Inv-loop μ-loop
-cast-list c = narrowed-fits (getD (c .before .before .before .args .operand .now) (c .before .before .loop .k) (pos 0)) (c .before .before .before .pre .small _ (c .before .loop-test .taken))
+cast-list c = narrowed-fits (getD (c .before .before .before .args .operand .now) (c .before .before .loop .k) (pos 0)) (c .before .before .before .pre .0 .small _ (c .before .loop-test .taken))
 
-mul-list-2 : tie.Need-mul-list-2 Inv-loop μ-loop
-mul-list-2 c = omega arith
+mul-t9 : tie.Need-mul-t9 Inv-loop μ-loop
+mul-t9 c = omega arith
 
-array-set-from-list : tie.Need-array-set-from-list Inv-loop μ-loop
-array-set-from-list c = omega (arith, c .before .before .before .pre .few, c .before .before .loop .inv .1 .long)
+slice-set-from-list : tie.Need-slice-set-from-list Inv-loop μ-loop
+slice-set-from-list c = omega (arith, c .before .before .before .pre .1, c .before .before .loop .inv .1 .long)
 
 add-k : tie.Need-add-k Inv-loop μ-loop
 add-k c = omega arith
@@ -40,7 +40,10 @@ loop-less : tie.Need-loop-less Inv-loop μ-loop
 loop-less c = omega arith
 
 loop-again : tie.Need-loop-again Inv-loop μ-loop
-loop-again c = (omega arith, filled-more _ _ _ (omega (arith, c .before .before .before .pre .few)) (c .before .before .loop .inv .1) (narrow-stored (getD (c .before .before .before .args .operand .now) (c .before .before .loop .k) (pos 0)) (c .before .before .before .pre .small _ (c .before .loop-test .taken))))
+loop-again c = (omega arith, filled-more _ _ _ (omega (arith, c .before .before .before .pre .1)) (c .before .before .loop .inv .1) (narrow-stored (getD (c .before .before .before .args .operand .now) (c .before .before .loop .k) (pos 0)) (c .before .before .before .pre .0 .small _ (c .before .loop-test .taken))))
+
+same-length : tie.Need-same-length Inv-loop μ-loop
+same-length c = c .before .loop .inv .1 .long
 
 returns : tie.Need-returns Inv-loop μ-loop
 returns c = let filled = c .before .loop .inv .1 in record { long = filled .long; each = λ k l. filled .each k (omega arith) }
@@ -55,9 +58,10 @@ rows-spec =
     mul-list
     shared-slice-copy-out-list
     cast-list
-    mul-list-2
-    array-set-from-list
+    mul-t9
+    slice-set-from-list
     add-k
     loop-less
     loop-again
+    same-length
     returns)
