@@ -6,7 +6,7 @@ ghost use Rattle.residue.specs.Rules.{powerOfTwo};
 ghost use Rattle.ticket.specs.Rules.{ticketLength};
 ghost use Rattle.ticket.specs.Laws.Limits.{Fitted, Numbers};
 ghost use Rattle.writer.specs.Laws.Sums.{quotientFor, remainderFor, WriteReady};
-ghost use Rattle.writer.specs.Laws.Writes.{claimsOf, ClaimsReady, claimsTo, lineClaims, RowReady};
+ghost use Rattle.writer.specs.Laws.Writes.{claimPut, ClaimReady, claimsOf, ClaimsReady, claimsTo, lineClaims, RowReady};
 use crate::operands::ENTRIES;
 use crate::operands::columns;
 use crate::operands::rows;
@@ -108,14 +108,38 @@ fn write_row(
     while column < width {
         let from = column * inner;
         let sum = exact::dot(x, &y[from..from + inner]);
-        let claim = divide(setting, half, sum);
-        let q = RECORD * (quotients + column);
-        put(&mut output[q..q + RECORD], header, claim.quotient);
-        let r = RECORD * (remainders + column);
-        put(&mut output[r..r + RECORD], header + 1, claim.remainder);
+        write_claim(
+            setting,
+            half,
+            sum,
+            header,
+            quotients + column,
+            remainders + column,
+            output,
+        );
         header += COLUMN;
         column += 1;
     }
+}
+
+// The two records of the claim for one sum. The kind of the remainders is one more than that of the quotients.
+fn write_claim(
+    setting: Setting,
+    half: u32,
+    sum: u32,
+    header: u32,
+    quotient: usize,
+    remainder: usize,
+    output: &mut [u8],
+)
+    requires { ⌜ ClaimReady setting half header quotient remainder (now output) ⌝ }
+    ensures { λ r. ⌜ now (output .exit) ≡ claimPut setting sum header quotient remainder (now (output .entry)) ⌝ }
+{
+    let claim = divide(setting, half, sum);
+    let q = RECORD * quotient;
+    put(&mut output[q..q + RECORD], header, claim.quotient);
+    let r = RECORD * remainder;
+    put(&mut output[r..r + RECORD], header + 1, claim.remainder);
 }
 
 // The claim for one sum S, which is known modulo 2^32. S is lifted by half times the scale, so that it is not negative: the quotient

@@ -3,7 +3,7 @@
 --   putAt o s p    o with the bytes p in place of those from place s on
 --   put-long       it is as long as o
 --   put-none       nothing is put
---   put-part, part-put-long   what a call leaves that changes a part of the output, and that it is as long
+--   put-part       what a call leaves that changes a part of the output
 --   put-more       more bytes are put right after the last
 --   put-apart      bytes at two places that do not meet can be put in either order
 --   put-both       more bytes are put right after the last at two such places
@@ -36,10 +36,6 @@ unfolding putAt
 put-part output start part {n} long =
     let same : start + (start + n - start) ≡ start + length part = omega arith in
     ap (λ x. take start output ++ (part ++ x)) (drop-drop (start + n - start) start output ∙ ap (λ m. drop m output) same)
-
-pub part-put-long : (output : List ℕ) (start : ℕ) (part : List ℕ) {n : ℕ} → length part ≡ n → start + n ≤ length output
-    → length (take start output ++ (part ++ drop (start + n - start) (drop start output))) ≡ length output
-part-put-long output start part long fits = ap length (put-part output start part long) ∙ put-long output start part (omega (arith, long))
 
 -- what the bytes are put over, as a part of the output
 put-over : (front old rest bytes : List ℕ) {start : ℕ} → length front ≡ start → length old ≡ length bytes

@@ -14,9 +14,11 @@
 --   line-put, part-put  one more record of a row is written, and one more row of a part
 --   lineClaims G x Y i q r n o   o with the first n claims of the row x of A and the columns Y: quotients from record q on, remainders from r on
 --   claimsTo G X Y n o  o with the first n claims of the rows X and the columns Y
---   RowReady, ClaimsReady   o has room for a row of claims, and for all
+--   claimPut G s h q r o   o with the claim for the sum s: the quotient at record q, the remainder at record r
+--   ClaimReady, RowReady, ClaimsReady   o has room for a claim, for a row of claims, and for all
 --   line-claims-none, claims-none   no claim is written yet
 --   line-claims-long, claims-long   the output stays as long as it is
+--   claim-written       a claim, as its two records are written
 --   claim-put, claims-put   one more claim of a row is written, and one more row of claims
 --   part-values         the records of a part, by the least residues of what they stand for
 --   claimsOf G A B o    o with all claims of the ticket
@@ -143,16 +145,17 @@ module _ (before : List ℕ) (start n : ℕ) (bytes : List ℕ) (long : length b
       ap (λ x. putAt x (recordBytes * (start + n)) more) is
       ∙ put-more before (recordBytes * start) bytes more (omega (arith, long)) (omega arith)
 
-pub line-put : (before : List ℕ) (start kind row : ℕ) (f : ℕ → ℕ) (n : ℕ) {output part : List ℕ}
+pub line-put : (before : List ℕ) (start kind row : ℕ) (f : ℕ → ℕ) (n header value : ℕ) {output part : List ℕ} → kind < 256 → row < 256 → n < 256
     → recordBytes * (start + n) ≤ length before → output ≡ putAt before (recordBytes * start) (lineRecords kind row f n)
-    → part ≡ recordOf kind row n (f n)
+    → header ≡ headerOf kind row n → value ≡ f n → part ≡ wordsOf header value
     → take (recordBytes * (start + n)) output
     ++ (part ++ drop (recordBytes * (start + n) + recordBytes - recordBytes * (start + n)) (drop (recordBytes * (start + n)) output))
     ≡ putAt before (recordBytes * start) (lineRecords kind row f (n + 1))
-line-put before start kind row f n {output} {part} room is part-is =
-    put-part output (recordBytes * (start + n)) part (ap length part-is ∙ length-recordOf kind row n (f n))
+line-put before start kind row f n header value {output} {part} k i j room is header-is value-is part-is =
+    let record-is : part ≡ recordOf kind row n (f n) = part-is ∙ words-record kind row n value k i j header-is ∙ ap (recordOf kind row n) value-is in
+    put-part output (recordBytes * (start + n)) part (ap length part-is ∙ length-words header value)
     ∙ records-more before start n (lineRecords kind row f n) (length-line kind row f n) room is part
-    ∙ ap (putAt before (recordBytes * start)) (ap (λ x. lineRecords kind row f n ++ x) part-is ∙ line-more kind row f n)
+    ∙ ap (putAt before (recordBytes * start)) (ap (λ x. lineRecords kind row f n ++ x) record-is ∙ line-more kind row f n)
 
 pub part-put : (before : List ℕ) (start kind width : ℕ) (f g : ℕ → ℕ) (row : ℕ) {output next : List ℕ}
     → recordBytes * (start + row * width) ≤ length before
@@ -192,6 +195,21 @@ claimsTo G X Y n output =
     (recordsTo 3 (G .columns) (λ c. rowQuotient G (lineOf X (G .inner) (c / G .columns)) Y (c % G .columns)) n))
     (recordBytes * remaindersFrom G)
     (recordsTo 4 (G .columns) (λ c. rowRemainder G (lineOf X (G .inner) (c / G .columns)) Y (c % G .columns)) n)
+
+-- the two records of the claim for a sum, at record q and at record r
+unfoldable pub claimPut : Setting → ℕ → ℕ → ℕ → ℕ → List ℕ → List ℕ
+claimPut G sum header q r output =
+    putAt (putAt output (recordBytes * q) (wordsOf header (quotientFor G sum))) (recordBytes * r)
+    (wordsOf (header + 1) (remainderFor G sum))
+
+pub record ClaimReady (G : Setting) (half header q r : ℕ) (output : List ℕ) : Type 0 where
+  pub numbers : Numbers G
+  pub fitted : Fitted G
+  pub half-is : half ≡ powerOfTwo (G .width - 1)
+  pub small : header < 2 ^ 31
+  pub apart : q < r
+  pub early : r ≤ 2 ^ 17
+  pub room : recordBytes * r + recordBytes ≤ length output
 
 pub record RowReady (G : Setting) (half : ℕ) (Y : List ℤ) (q r : ℕ) (output : List ℕ) : Type 0 where
   pub counts : Counts G
@@ -252,29 +270,32 @@ claims-long G X Y n before few room is =
     both-long before (quotientsFrom G) (remaindersFrom G) n _ _ (length-part 3 (G .columns) _ n) (length-part 4 (G .columns) _ n)
     (omega arith) (omega arith) is
 
-pub claim-put : (G : Setting) (x Y : List ℤ) (row q r n : ℕ) (before : List ℕ) {output first part part' : List ℕ}
-    → q + (n + 1) ≤ r → recordBytes * (r + n) ≤ length before → output ≡ lineClaims G x Y row q r n before
-    → part ≡ recordOf 3 row n (rowQuotient G x Y n) → part' ≡ recordOf 4 row n (rowRemainder G x Y n)
-    → first
-    ≡ take (recordBytes * (q + n)) output
-    ++ (part ++ drop (recordBytes * (q + n) + recordBytes - recordBytes * (q + n)) (drop (recordBytes * (q + n)) output))
-    → take (recordBytes * (r + n)) first
-    ++ (part' ++ drop (recordBytes * (r + n) + recordBytes - recordBytes * (r + n)) (drop (recordBytes * (r + n)) first))
-    ≡ lineClaims G x Y row q r (n + 1) before
-unfolding lineClaims
-claim-put G x Y row q r n before {output} {first} {part} {part'} apart room is part-is part-is' first-is =
-    let long : length part ≡ recordBytes = ap length part-is ∙ length-recordOf 3 row n (rowQuotient G x Y n) in
-    let long' : length part' ≡ recordBytes = ap length part-is' ∙ length-recordOf 4 row n (rowRemainder G x Y n) in
-    put-part first (recordBytes * (r + n)) part' long'
-    ∙ ap (λ o. putAt o (recordBytes * (r + n)) part') (first-is ∙ put-part output (recordBytes * (q + n)) part long)
-    ∙ both-more before q r n (lineRecords 3 row (rowQuotient G x Y) n) (lineRecords 4 row (rowRemainder G x Y) n)
-    (length-line 3 row (rowQuotient G x Y) n) (length-line 4 row (rowRemainder G x Y) n) (omega arith) room is part part' (omega (arith, long))
-    ∙ rw (
-      part-is,
-      part-is',
-      line-more 3 row (rowQuotient G x Y) n,
-      line-more 4 row (rowRemainder G x Y) n,
-    )
+pub claim-written : (G : Setting) (sum header q r : ℕ) (output part part' : List ℕ) {quotient remainder : ℕ} → part ≡ wordsOf header quotient
+    → part' ≡ wordsOf (header + 1) remainder → quotient ≡ quotientFor G sum → remainder ≡ remainderFor G sum
+    → let first = take (recordBytes * q) output ++ (part ++ drop (recordBytes * q + recordBytes - recordBytes * q) (drop (recordBytes * q) output)) in
+    take (recordBytes * r) first ++ (part' ++ drop (recordBytes * r + recordBytes - recordBytes * r) (drop (recordBytes * r) first))
+    ≡ claimPut G sum header q r output
+unfolding claimPut
+claim-written G sum header q r output part part' {quotient} {remainder} is is' quotient-is remainder-is =
+    put-part _ (recordBytes * r) part' (ap length is' ∙ length-words (header + 1) remainder)
+    ∙ ap (λ o. putAt o (recordBytes * r) part') (put-part output (recordBytes * q) part (ap length is ∙ length-words header quotient))
+    ∙ rw (is, is', quotient-is, remainder-is)
+
+pub claim-put : (G : Setting) (x Y : List ℤ) (row q r n header : ℕ) (before : List ℕ) {output next : List ℕ} → row < 256 → n < 256
+    → q + (n + 1) ≤ r → recordBytes * (r + n) ≤ length before → output ≡ lineClaims G x Y row q r n before → header ≡ headerOf 3 row n
+    → next ≡ claimPut G (dotProduct x (lineOf Y (G .inner) n)) header (q + n) (r + n) output
+    → next ≡ lineClaims G x Y row q r (n + 1) before
+unfolding lineClaims claimPut
+claim-put G x Y row q r n header before i j apart room is header-is next-is =
+    let quotient = rowQuotient G x Y in
+    let remainder = rowRemainder G x Y in
+    let first = words-record 3 row n (quotient n) (omega arith) i j header-is in
+    let second = words-record 4 row n (remainder n) {header = header + 1} (omega arith) i j (omega arith) in
+    next-is
+    ∙ both-more before q r n (lineRecords 3 row quotient n) (lineRecords 4 row remainder n) (length-line 3 row quotient n)
+    (length-line 4 row remainder n) (omega arith) room is (wordsOf header (quotient n)) (wordsOf (header + 1) (remainder n))
+    (omega (arith, length-words header (quotient n)))
+    ∙ rw (first, second, line-more 3 row quotient n, line-more 4 row remainder n)
 
 pub claims-put : (G : Setting) (X Y : List ℤ) (row : ℕ) (before : List ℕ) {output next : List ℕ} → row < G .rows
     → recordBytes * (remaindersFrom G + G .rows * G .columns) ≤ length before → output ≡ claimsTo G X Y (row * G .columns) before

@@ -10,10 +10,10 @@ use Rattle.residue.specs.Rules.{modulus, leastResidue}
 use Rattle.residue.specs.Laws.Signed.{narrowed-is}
 use Rattle.ticket.specs.Rules.{recordBytes}
 use Rattle.ticket.specs.Laws.Fills.{part-long}
-use Rattle.writer.specs.Rules.{joined, recordOf}
+use Rattle.writer.specs.Rules.{joined}
 use Rattle.writer.specs.Laws.Operands.{residueIn}
 use Rattle.writer.specs.Laws.Puts.{putAt, put-none}
-use Rattle.writer.specs.Laws.Writes.{headerOf, lineRecords, length-line, records-long, line-put, words-record}
+use Rattle.writer.specs.Laws.Writes.{headerOf, lineRecords, length-line, records-long, line-put}
 use Rattle.writer.proofs.records.write_line.Statement.{statement}
 use Rattle.writer.proofs.records.write_line.Tie as tie
 
@@ -95,13 +95,13 @@ loop-less c = omega arith
 loop-again : tie.Need-loop-again Inv-loop μ-loop
 loop-again c =
     let at = c .before .before .before .before .before .before .before in
-    let header = words-record (start at .args .kind) (start at .args .row) (at .loop .column) (c .before .before .before .residue .result) (omega (arith, start at .fits)) (omega (arith, start at .fits)) (omega (arith, start at .pre .wide, c .before .before .before .before .before .before .loop-test .taken)) (at .loop .inv .1) in
-    let value = c .before .before .before .residue .ensures ∙ ap (leastResidue modulus) (entry-is (c .before .before .before .before)) in (
+    let more = c .before .before .before .before .before .before .loop-test .taken in (
       omega arith,
       omega arith,
-      line-put (start at .args .output .now) (start at .args .start) (start at .args .kind) (start at .args .row) (residueIn (start at .args .entries .now)) (at .loop .column)
-          (omega (arith, start at .pre .room, c .before .before .before .before .before .before .loop-test .taken)) (at .loop .inv .2)
-          (c .before .before .put .ensures ∙ header ∙ ap (recordOf (start at .args .kind) (start at .args .row) (at .loop .column)) value),
+      line-put (start at .args .output .now) (start at .args .start) (start at .args .kind) (start at .args .row) (residueIn (start at .args .entries .now)) (at .loop .column) (at .loop .header) (c .before .before .before .residue .result)
+          (omega (arith, start at .fits)) (omega (arith, start at .fits)) (omega (arith, start at .pre .wide))
+          (omega (arith, start at .pre .room)) (at .loop .inv .2) (at .loop .inv .1)
+          (c .before .before .before .residue .ensures ∙ ap (leastResidue modulus) (entry-is (c .before .before .before .before))) (c .before .before .put .ensures),
     )
 
 same-length : tie.Need-same-length Inv-loop μ-loop
