@@ -23,6 +23,9 @@ long c =
     claims-long (start c .args .setting) (start c .args .x .now) (start c .args .y .now) (c .loop .row * start c .args .setting .columns)
     (start c .args .output .now) (mul-le-mul-right (start c .args .setting .columns) (c .loop .inv .0)) (start c .pre .room) (c .loop .inv .1)
 
+more : (c : tie.In-loop Inv-loop μ-loop) → c .before .loop .row < start (c .before) .args .setting .rows
+more c = c .loop-test .taken
+
 record Inside (c : tie.In-loop Inv-loop μ-loop) : Type 0 where
   line : c .before .loop .row * start (c .before) .args .setting .inner + start (c .before) .args .setting .inner ≤ length (start (c .before) .args .x .now)
   few : c .before .loop .row * start (c .before) .args .setting .inner + start (c .before) .args .setting .inner ≤ 2048
@@ -35,14 +38,14 @@ record Inside (c : tie.In-loop Inv-loop μ-loop) : Type 0 where
 inside : (c : tie.In-loop Inv-loop μ-loop) → Inside c
 inside c =
     let pre = start (c .before) .pre in
-    let line = row-inside (start (c .before) .args .setting .inner) (c .loop-test .taken) in
+    let line = row-inside (start (c .before) .args .setting .inner) (more c) in
     record {
       line = omega (arith, pre .lines .rows);
       few = omega (arith, pre .counts);
-      row = row-inside (start (c .before) .args .setting .columns) (c .loop-test .taken);
+      row = row-inside (start (c .before) .args .setting .columns) (more c);
       early = omega (arith, pre .counts);
       claims = omega (arith, pre .counts);
-      high = omega (arith, c .loop-test .taken, pre .counts .sizes .rows);
+      high = omega (arith, more c, pre .counts .sizes .rows);
     }
 
 cast-height : tie.Need-cast-height Inv-loop μ-loop
@@ -135,7 +138,7 @@ loop-again c =
     let at = c .before .before .before .before .before .before in (
       omega (arith, c .before .before .before .before .before .loop-test .taken),
       claims-put (start at .args .setting) (start at .args .x .now) (start at .args .y .now) (at .loop .row) (start at .args .output .now)
-          (c .before .before .before .before .before .loop-test .taken) (start at .pre .room) (at .loop .inv .1) (c .before .before .write-row .ensures),
+          (more (c .before .before .before .before .before)) (start at .pre .room) (at .loop .inv .1) (c .before .before .write-row .ensures),
     )
 
 same-length : tie.Need-same-length Inv-loop μ-loop
