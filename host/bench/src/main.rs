@@ -1,177 +1,131 @@
-//! Times the library beside safe Rust of the same rules, in one run and on the
-//! same true tickets. Run by hand:
+//! Times the library beside other programs of the same rules, in one run and on
+//! the same true tickets. Run by hand:
 //!
 //!     cargo run --release -p bench
 //!
-//! Beside each call stands a straightforward one, and beside the full check and
-//! the writer also the fastest that is known. All are timed in turns, so that
-//! whatever else the machine does falls on all. As it can only lengthen a time,
-//! the least time over the rounds is the figure that the rest is worked out
-//! from; the median is beside it.
-
-#![forbid(unsafe_code)]
+//! Beside the library stand the calls as one writes them first, the calls as
+//! fast as they get on every x86-64 processor, and, where it is installed, FLINT.
+//! All are timed in turns, so that whatever else the machine does falls on all;
+//! as it can only lengthen a time, the least time over the rounds is taken.
 
 mod best;
+#[cfg(flint)]
+mod flint;
 mod straightforward;
+mod table;
 #[cfg(test)]
 mod tests;
 
+use std::cell::RefCell;
 use std::hint::black_box;
 use std::time::{Duration, Instant};
 
 use dikdumar::{Answer, Setting};
+use table::{Line, Table};
 
-/// Odd, so that there is a middle one.
-const ROUNDS: usize = 301;
+/// How long the rounds go on.
+const ROUNDS: Duration = Duration::from_secs(30);
 /// How long one measurement takes at least: long beside the clock's steps, short
 /// beside the time that another process is given.
-const MEASUREMENT: Duration = Duration::from_micros(500);
+const MEASUREMENT: Duration = Duration::from_micros(60);
 
 const SIZES: [[u32; 3]; 3] = [[1, 1, 1], [8, 8, 8], [32, 64, 32]];
 const VECTORS: [u32; 2] = [1, 8];
 
-type ChallengeCheck = fn(Setting, &[u8], &[u32]) -> Answer;
-type FullCheck = fn(Setting, &[u8]) -> Answer;
-type Writer = fn(Setting, &[i32], &[i32], &mut [u8]) -> Answer;
+/// A program of the same rules.
+struct Program {
+    challenge_check: fn(Setting, &[u8], &[u32]) -> Answer,
+    full_check: fn(Setting, &[u8]) -> Answer,
+    write_ticket: fn(Setting, &[i32], &[i32], &mut [u8]) -> Answer,
+    /// How many rows and how many vectors the challenge check takes at once.
+    rows_at_once: u32,
+    vectors_at_once: u32,
+}
 
-/// The library's first, and so below.
-const CHALLENGE_CHECKS: [(&str, ChallengeCheck); 2] = [
-    ("library", dikdumar::challenge_check),
-    ("straightforward", straightforward::challenge_check),
-];
-const FULL_CHECKS: [(&str, FullCheck); 3] = [
-    ("library", dikdumar::full_check),
-    ("best", best::full_check),
-    ("straightforward", straightforward::full_check),
-];
-const WRITERS: [(&str, Writer); 3] = [
-    ("library", dikdumar::write_ticket),
-    ("best", best::write_ticket),
-    ("straightforward", straightforward::write_ticket),
+/// The library first.
+static PROGRAMS: [Program; 3] = [
+    Program {
+        challenge_check: dikdumar::challenge_check,
+        full_check: dikdumar::full_check,
+        write_ticket: dikdumar::write_ticket,
+        rows_at_once: 1,
+        vectors_at_once: 1,
+    },
+    Program {
+        challenge_check: straightforward::challenge_check,
+        full_check: straightforward::full_check,
+        write_ticket: straightforward::write_ticket,
+        rows_at_once: 1,
+        vectors_at_once: 1,
+    },
+    Program {
+        challenge_check: best::challenge_check,
+        full_check: best::full_check,
+        write_ticket: best::write_ticket,
+        rows_at_once: 4,
+        vectors_at_once: 4,
+    },
 ];
 
 fn main() {
+    let start = Instant::now();
+    let inputs: Vec<Input> = SIZES.iter().map(|&sizes| Input::new(sizes)).collect();
+    let mut clock = Clock::default();
+    let plans: Vec<Plan> = inputs.iter().map(|input| Plan::new(input, &mut clock)).collect();
+    let rounds = clock.run();
+
+    let mut table = Table::default();
+    for (input, plan) in inputs.iter().zip(&plans) {
+        plan.lines(input, &clock, &mut table);
+    }
+    println!("Processor: {}", processor());
+    #[cfg(flint)]
+    println!("FLINT: {}", flint::version());
+    #[cfg(not(flint))]
+    println!("FLINT: libflint-dev is not installed, skipped");
     println!(
-        "Nanoseconds, least (median) of {ROUNDS} rounds; ratio: the library's time over that of the column before, \
-         least (median)"
+        "Least times of {rounds} rounds in turns, {} s.",
+        start.elapsed().as_secs()
     );
-
     println!();
-    println!("Challenge check of true tickets");
-    print_head(&CHALLENGE_CHECKS.map(|(name, _)| name), "products", "ns per product");
-    for sizes in SIZES {
-        for vectors in VECTORS {
-            let input = Input::new(sizes, vectors);
-            let answer = input.challenge_answer(&input.list);
-            assert_eq!(answer.number, 0, "a true ticket is accepted");
-            let times = input.challenge_times(&input.list);
-            print_row(&input, answer.products as usize, &times, per_product(answer));
-        }
-    }
-
-    println!();
-    println!("Full check of true tickets");
-    print_head(&FULL_CHECKS.map(|(name, _)| name), "products", "ns per product");
-    for sizes in SIZES {
-        let input = Input::new(sizes, 1);
-        let answer = same(&FULL_CHECKS.map(|(_, check)| check(input.setting, &input.ticket)));
-        assert_eq!(answer.number, 0, "a true ticket is accepted");
-        let times = measure(FULL_CHECKS.map(|(_, check)| {
-            let input = &input;
-            move || check(black_box(input.setting), black_box(&input.ticket))
-        }));
-        print_row(&input, answer.products as usize, &times, per_product(answer));
-    }
-
-    println!();
-    println!("Writing of tickets");
-    print_head(&WRITERS.map(|(name, _)| name), "products", "ns per product");
-    for sizes in SIZES {
-        let input = Input::new(sizes, 1);
-        let answer = same(&WRITERS.map(|(name, write)| {
-            let mut output = vec![0; input.ticket.len()];
-            let answer = write(input.setting, &input.a, &input.b, &mut output);
-            assert!(output == input.ticket, "{name} writes the true ticket");
-            answer
-        }));
-        assert_eq!(answer.number, 0, "the ticket is written");
-        let times = measure(WRITERS.map(|(_, write)| {
-            let input = &input;
-            let mut output = vec![0; input.ticket.len()];
-            move || {
-                let (a, b) = (black_box(&input.a), black_box(&input.b));
-                write(black_box(input.setting), a, b, black_box(&mut output))
-            }
-        }));
-        print_row(&input, answer.products as usize, &times, per_product(answer));
-    }
-
-    println!();
-    println!("Reading alone: the challenge check ends at a list of the wrong length");
-    print_head(&CHALLENGE_CHECKS.map(|(name, _)| name), "bytes", "bytes per ns");
-    for sizes in SIZES {
-        let input = Input::new(sizes, 1);
-        let answer = input.challenge_answer(&[]);
-        assert_eq!(answer.number, 10, "the list has the wrong length");
-        let times = input.challenge_times(&[]);
-        let per_nanosecond = |time: &Time| input.ticket.len() as f64 / time.least;
-        print_row(&input, input.ticket.len(), &times, per_nanosecond);
-    }
+    print!("{table}");
 }
 
-fn per_product(answer: Answer) -> impl Fn(&Time) -> f64 {
-    move |time| time.least / f64::from(answer.products)
+fn processor() -> String {
+    let text = std::fs::read_to_string("/proc/cpuinfo").unwrap_or_default();
+    let name = text
+        .lines()
+        .find_map(|line| line.strip_prefix("model name")?.split_once(": "));
+    name.map_or("unknown", |(_, name)| name).to_string()
 }
 
-/// The names of the columns: after each time but the library's its ratio, and at
-/// the end the rates.
-fn print_head(names: &[&str], amount: &str, rate: &str) {
-    print!("{:>10} {:>2} {amount:>9}", "size", "s");
-    for (index, name) in names.iter().enumerate() {
-        print!(" {name:>22}");
-        if index > 0 {
-            print!(" {:>13}", "ratio");
-        }
-    }
-    println!(" {rate:>width$}", width = 9 * names.len() - 1);
-}
-
-/// One line of figures; `rate` makes the last ones, one for each time.
-fn print_row(input: &Input, amount: usize, times: &[Time], rate: impl Fn(&Time) -> f64) {
-    print!("{:>10} {:>2} {amount:>9}", input.size(), input.setting.vectors);
-    for (index, time) in times.iter().enumerate() {
-        print!(" {:>22}", format!("{:.1} ({:.1})", time.least, time.median));
-        if index > 0 {
-            let ratio = Time {
-                least: times[0].least / time.least,
-                median: times[0].median / time.median,
-            };
-            print!(" {:>13}", format!("{:.2} ({:.2})", ratio.least, ratio.median));
-        }
-    }
-    for time in times {
-        print!(" {:>8.2}", rate(time));
-    }
-    println!();
-}
-
-/// Two matrices, their true ticket and a list for it.
+/// Two matrices, their true ticket, one that is false in row 0, and a list for
+/// the most vectors.
 struct Input {
     setting: Setting,
     a: Vec<i32>,
     b: Vec<i32>,
     ticket: Vec<u8>,
+    false_ticket: Vec<u8>,
     list: Vec<u32>,
+    /// For each number of vectors and each program a list with which the false
+    /// ticket is caught at the first of the last vectors that it takes at once.
+    caught_lists: [[Vec<u32>; PROGRAMS.len()]; 2],
+    /// What the writers write.
+    output: RefCell<Vec<u8>>,
+    #[cfg(flint)]
+    flint: [RefCell<flint::Matrices>; 2],
 }
 
 impl Input {
-    fn new([rows, inner, columns]: [u32; 3], vectors: u32) -> Input {
+    fn new([rows, inner, columns]: [u32; 3]) -> Input {
+        let most = VECTORS[1];
         // These fit at every size.
         let setting = apart::Setting {
             rows,
             inner,
             columns,
-            vectors,
+            vectors: most,
             scale: 1000,
             bound: 1000,
             width: 18,
@@ -187,14 +141,56 @@ impl Input {
         let b = entries(inner * columns, rows * inner);
         let [wide_a, wide_b] = [&a, &b].map(|matrix| matrix.iter().copied().map(i64::from).collect::<Vec<_>>());
         let ticket = apart::true_ticket(&setting, &wide_a, &wide_b);
-        let list = (0..vectors * columns)
-            .map(|index| spread(index) % 2_147_483_647)
-            .collect();
+        let list: Vec<u32> = (0..most * columns).map(|index| spread(index) % 2_147_483_647).collect();
+        // The remainder in row 0, column 0.
+        let mut false_ticket = ticket.clone();
+        let remainder = ticket.len() - 8 * (rows * columns) as usize + 4;
+        false_ticket[remainder] ^= 1;
         Input {
             setting: Setting::from(setting.numbers()),
+            caught_lists: VECTORS.map(|vectors| {
+                PROGRAMS.each_ref().map(|program| {
+                    let mut list = list[..(vectors * columns) as usize].to_vec();
+                    let passed = vectors - program.vectors_at_once.min(vectors);
+                    for vector in list.chunks_exact_mut(columns as usize).take(passed as usize) {
+                        vector[0] = 0;
+                    }
+                    list
+                })
+            }),
+            output: RefCell::new(vec![0; ticket.len()]),
+            #[cfg(flint)]
+            flint: VECTORS.map(|vectors| {
+                let residues = |matrix: &[i32]| -> Vec<u32> {
+                    matrix
+                        .iter()
+                        .map(|&entry| dikdumar::residue::from_signed(entry))
+                        .collect()
+                };
+                let sum = |i: u32, j: u32| -> i32 {
+                    let product = |k: u32| a[(i * inner + k) as usize] * b[(k * columns + j) as usize];
+                    (0..inner).map(product).sum()
+                };
+                let c: Vec<i32> = (0..rows * columns)
+                    .map(|claim| sum(claim / columns, claim % columns))
+                    .collect();
+                // The vectors as columns.
+                let x: Vec<u32> = (0..columns * vectors)
+                    .map(|index| list[(index % vectors * columns + index / vectors) as usize])
+                    .collect();
+                let sizes = [rows, inner, columns, vectors];
+                RefCell::new(flint::Matrices::new(
+                    sizes,
+                    &residues(&a),
+                    &residues(&b),
+                    &residues(&c),
+                    &x,
+                ))
+            }),
             a,
             b,
             ticket,
+            false_ticket,
             list,
         }
     }
@@ -205,70 +201,243 @@ impl Input {
         } = self.setting;
         format!("{rows}×{inner}×{columns}")
     }
+}
 
-    /// The answer of all challenge checks.
-    fn challenge_answer(&self, list: &[u32]) -> Answer {
-        same(&CHALLENGE_CHECKS.map(|(_, check)| check(self.setting, &self.ticket, list)))
+/// The number of a measurement.
+type Number = usize;
+
+/// Measurements, in turns.
+#[derive(Default)]
+struct Clock<'a> {
+    measurements: Vec<Measurement<'a>>,
+}
+
+struct Measurement<'a> {
+    /// Makes a call so many times.
+    call: Box<dyn FnMut(u32) + 'a>,
+    count: u32,
+    /// Nanoseconds of one call.
+    least: f64,
+}
+
+impl<'a> Clock<'a> {
+    fn add<T>(&mut self, mut call: impl FnMut() -> T + 'a) -> Number {
+        self.measurements.push(Measurement {
+            call: Box::new(move |count| {
+                for _ in 0..count {
+                    black_box(call());
+                }
+            }),
+            count: 1,
+            least: f64::INFINITY,
+        });
+        self.measurements.len() - 1
     }
 
-    fn challenge_times(&self, list: &[u32]) -> [Time; 2] {
-        measure(
-            CHALLENGE_CHECKS
-                .map(|(_, check)| move || check(black_box(self.setting), black_box(&self.ticket), black_box(list))),
-        )
+    /// The number of rounds.
+    fn run(&mut self) -> usize {
+        for measurement in &mut self.measurements {
+            // As many calls as fill a measurement, found by doubling.
+            while measurement.nanoseconds() * f64::from(measurement.count) < MEASUREMENT.as_nanos() as f64 {
+                measurement.count *= 2;
+            }
+        }
+        let start = Instant::now();
+        let mut rounds = 0;
+        while start.elapsed() < ROUNDS {
+            for measurement in &mut self.measurements {
+                // What was measured before has left other things in the caches.
+                (measurement.call)(1);
+                measurement.least = measurement.least.min(measurement.nanoseconds());
+            }
+            rounds += 1;
+        }
+        rounds
+    }
+
+    fn nanoseconds(&self, number: Number) -> f64 {
+        self.measurements[number].least
     }
 }
 
-/// The answer of all, which is the same.
-fn same(answers: &[Answer]) -> Answer {
+impl Measurement<'_> {
+    fn nanoseconds(&mut self) -> f64 {
+        let start = Instant::now();
+        (self.call)(self.count);
+        start.elapsed().as_nanos() as f64 / f64::from(self.count)
+    }
+}
+
+/// What is measured of one size, by each program, and by FLINT last.
+struct Plan {
+    challenge: [Challenge; 2],
+    full_check: Vec<Number>,
+    write_ticket: Vec<Number>,
+}
+
+/// For one number of vectors.
+struct Challenge {
+    vectors: u32,
+    whole: Vec<Number>,
+    /// Ends at a list of the wrong length.
+    reading: Vec<Number>,
+    /// Ends at row 0 of the last vectors, after their u.
+    caught: Vec<Number>,
+    #[cfg(flint)]
+    u: Number,
+}
+
+impl Plan {
+    fn new<'a>(input: &'a Input, clock: &mut Clock<'a>) -> Plan {
+        let challenge = [0, 1].map(|index| Challenge::new(input, index, clock));
+        let answers = PROGRAMS
+            .each_ref()
+            .map(|program| (program.full_check)(input.setting, &input.ticket));
+        assert_same(&answers, 0);
+        let full_check = PROGRAMS
+            .each_ref()
+            .map(|program| clock.add(move || (program.full_check)(black_box(input.setting), black_box(&input.ticket))));
+        let write_ticket = PROGRAMS.each_ref().map(|program| {
+            clock.add(move || {
+                let mut output = input.output.borrow_mut();
+                let (a, b) = (black_box(&input.a), black_box(&input.b));
+                (program.write_ticket)(black_box(input.setting), a, b, black_box(&mut output))
+            })
+        });
+        assert_same(
+            &PROGRAMS.each_ref().map(|program| {
+                let mut output = vec![0; input.ticket.len()];
+                let answer = (program.write_ticket)(input.setting, &input.a, &input.b, &mut output);
+                assert!(output == input.ticket, "the true ticket is written");
+                answer
+            }),
+            0,
+        );
+        Plan {
+            challenge,
+            #[cfg(not(flint))]
+            full_check: full_check.to_vec(),
+            #[cfg(flint)]
+            full_check: {
+                let flint = &input.flint[0];
+                flint.borrow_mut().product();
+                assert!(flint.borrow_mut().product_is_c(), "the product is that of the claims");
+                let product = clock.add(|| flint.borrow_mut().product());
+                full_check.into_iter().chain([product]).collect()
+            },
+            write_ticket: write_ticket.to_vec(),
+        }
+    }
+
+    fn lines(&self, input: &Input, clock: &Clock, table: &mut Table) {
+        let times =
+            |numbers: &[Number]| -> Vec<f64> { numbers.iter().map(|&number| clock.nanoseconds(number)).collect() };
+        for challenge in &self.challenge {
+            challenge.lines(input, clock, table);
+        }
+        let size = input.size();
+        table.add(Line::whole(&size, None, "full check", &times(&self.full_check)));
+        table.add(Line::whole(&size, None, "writer", &times(&self.write_ticket)));
+    }
+}
+
+impl Challenge {
+    fn new<'a>(input: &'a Input, index: usize, clock: &mut Clock<'a>) -> Challenge {
+        let vectors = VECTORS[index];
+        let setting = Setting {
+            vectors,
+            ..input.setting
+        };
+        let list = &input.list[..(vectors * setting.columns) as usize];
+        let shorter = &list[1..];
+        let mut call = |program: &'static Program, ticket: &'a [u8], list: &'a [u32], number: u32| -> Number {
+            let answers = PROGRAMS
+                .each_ref()
+                .map(|program| (program.challenge_check)(setting, ticket, list));
+            assert_same(&answers, number);
+            clock.add(move || (program.challenge_check)(black_box(setting), black_box(ticket), black_box(list)))
+        };
+        let mut of_all = |ticket: &'a [u8], list: &'a [u32], number: u32| -> Vec<Number> {
+            PROGRAMS
+                .iter()
+                .map(|program| call(program, ticket, list, number))
+                .collect()
+        };
+        #[cfg_attr(not(flint), allow(unused_mut))]
+        let mut whole = of_all(&input.ticket, list, 0);
+        let reading = of_all(&input.ticket, shorter, 10);
+        let caught = PROGRAMS
+            .iter()
+            .zip(&input.caught_lists[index])
+            .map(|(program, list)| call(program, &input.false_ticket, list, 12))
+            .collect();
+        #[cfg(flint)]
+        let u = {
+            let flint = &input.flint[index];
+            assert!(flint.borrow_mut().freivalds(), "the claims are true");
+            whole.push(clock.add(|| flint.borrow_mut().freivalds()));
+            clock.add(|| flint.borrow_mut().u())
+        };
+        Challenge {
+            vectors,
+            whole,
+            reading,
+            caught,
+            #[cfg(flint)]
+            u,
+        }
+    }
+
+    fn lines(&self, input: &Input, clock: &Clock, table: &mut Table) {
+        let times =
+            |numbers: &[Number]| -> Vec<f64> { numbers.iter().map(|&number| clock.nanoseconds(number)).collect() };
+        let [whole, reading, caught] = [&self.whole, &self.reading, &self.caught].map(|numbers| times(numbers));
+        let size = input.size();
+        let vectors = Some(self.vectors);
+        table.add(Line::whole(&size, vectors, "challenge check", &whole));
+        table.add(Line::part(&size, vectors, "reading", &reading));
+
+        let after_reading: Vec<f64> = whole
+            .iter()
+            .zip(&reading)
+            .map(|(whole, reading)| whole - reading)
+            .collect();
+        if PROGRAMS
+            .iter()
+            .any(|program| program.rows_at_once >= input.setting.rows)
+        {
+            // Nothing is left after row 0, so the two are not told apart.
+            #[cfg(flint)]
+            let after_reading = [&after_reading[..], &whole[PROGRAMS.len()..]].concat();
+            table.add(Line::part(&size, vectors, "u and rows", &after_reading));
+            return;
+        }
+        // The check that is caught has all done but the rows after the first ones
+        // of the last vectors.
+        let mut of_u = Vec::new();
+        let mut of_rows = Vec::new();
+        for (index, program) in PROGRAMS.iter().enumerate() {
+            let left_out = program.vectors_at_once.min(self.vectors) * (input.setting.rows - program.rows_at_once);
+            let row = (whole[index] - caught[index]) / f64::from(left_out);
+            let rows = row * f64::from(self.vectors * input.setting.rows);
+            of_rows.push(rows);
+            of_u.push(after_reading[index] - rows);
+        }
+        #[cfg(flint)]
+        {
+            let u = clock.nanoseconds(self.u);
+            of_u.push(u);
+            of_rows.push(whole[PROGRAMS.len()] - u);
+        }
+        table.add(Line::part(&size, vectors, "u", &of_u));
+        table.add(Line::part(&size, vectors, "rows", &of_rows));
+    }
+}
+
+/// All answers are the same, and have this number.
+fn assert_same(answers: &[Answer], number: u32) {
     for answer in answers {
         assert_eq!(*answer, answers[0], "all give the same answer");
     }
-    answers[0]
-}
-
-/// Nanoseconds of one call.
-struct Time {
-    least: f64,
-    median: f64,
-}
-
-impl Time {
-    fn new(mut times: Vec<f64>) -> Time {
-        times.sort_by(f64::total_cmp);
-        Time {
-            least: times[0],
-            median: times[times.len() / 2],
-        }
-    }
-}
-
-fn measure<const CALLS: usize>(mut calls: [impl FnMut() -> Answer; CALLS]) -> [Time; CALLS] {
-    // As many calls as fill a measurement, found by doubling; this also warms
-    // up.
-    let counts = calls.each_mut().map(|call| {
-        let mut count = 1;
-        while nanoseconds(call, count) * f64::from(count) < MEASUREMENT.as_nanos() as f64 {
-            count *= 2;
-        }
-        count
-    });
-    let mut times = [const { Vec::new() }; CALLS];
-    for round in 0..ROUNDS {
-        // None is always the first.
-        for turn in 0..CALLS {
-            let turn = (round + turn) % CALLS;
-            times[turn].push(nanoseconds(&mut calls[turn], counts[turn]));
-        }
-    }
-    times.map(Time::new)
-}
-
-/// The time of one call, over `count` of them.
-fn nanoseconds(call: &mut impl FnMut() -> Answer, count: u32) -> f64 {
-    let start = Instant::now();
-    for _ in 0..count {
-        black_box(call());
-    }
-    start.elapsed().as_nanos() as f64 / f64::from(count)
+    assert_eq!(answers[0].number, number);
 }

@@ -2,6 +2,9 @@
 //! in vectors, 64-bit arithmetic, every product modulo p reduced at once with
 //! `% P`. The same tests in the same order.
 
+#![forbid(unsafe_code)]
+#![allow(clippy::needless_range_loop)]
+
 use dikdumar::{Answer, Setting};
 
 const P: u64 = 2_147_483_647;

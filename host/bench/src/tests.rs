@@ -1,6 +1,6 @@
-//! What is timed beside the library has to follow the same rules: the
-//! straightforward challenge check is compared with the implementation written
-//! apart, and the two full checks and the two writers with each other.
+//! All programs that are timed have to give the same answers, on tickets true,
+//! false and damaged, for all refusals and for settings of all kinds: the answers
+//! of the implementation written apart.
 
 use std::collections::BTreeSet;
 
@@ -8,19 +8,7 @@ use super::*;
 
 const P: u32 = 2_147_483_647;
 
-/// The answer of the straightforward challenge check is that of the
-/// implementation written apart.
-fn assert_same_challenge(setting: Setting, ticket: &[u8], list: &[u32]) {
-    let answer = straightforward::challenge_check(setting, ticket, list);
-    let right = apart::challenge_check(&apart_setting(setting), ticket, list);
-    assert_eq!(apart::Answer::from(answer.numbers()), right);
-}
-
 fn apart_setting(setting: Setting) -> apart::Setting {
-    numbers(setting).into()
-}
-
-fn numbers(setting: Setting) -> [u32; 7] {
     let Setting {
         rows,
         inner,
@@ -30,104 +18,73 @@ fn numbers(setting: Setting) -> [u32; 7] {
         bound,
         width,
     } = setting;
-    [rows, inner, columns, vectors, scale, bound, width]
+    [rows, inner, columns, vectors, scale, bound, width].into()
 }
 
-#[test]
-fn the_straightforward_challenge_check_follows_the_rules() {
-    let inputs = [Input::new([2, 3, 2], 2), Input::new([8, 8, 8], 8)];
-    for Input {
-        setting, ticket, list, ..
-    } in inputs
-    {
-        assert_same_challenge(setting, &ticket, &list);
-        assert_same_challenge(setting, &ticket, &list[1..]);
-        assert_same_challenge(setting, &ticket[1..], &list);
-        for index in 0..ticket.len() {
-            for bit in 0..8 {
-                let mut damaged = ticket.clone();
-                damaged[index] ^= 1 << bit;
-                assert_same_challenge(setting, &damaged, &list);
-            }
-        }
-        for index in 0..list.len() {
-            let mut other = list.clone();
-            other[index] = P;
-            assert_same_challenge(setting, &ticket, &other);
-        }
+/// The answer of all challenge checks.
+fn challenge_answer(setting: Setting, ticket: &[u8], list: &[u32]) -> Answer {
+    let right = apart::challenge_check(&apart_setting(setting), ticket, list);
+    let answers = PROGRAMS
+        .each_ref()
+        .map(|program| (program.challenge_check)(setting, ticket, list));
+    for (index, answer) in answers.iter().enumerate() {
+        assert_eq!(
+            apart::Answer::from(answer.numbers()),
+            right,
+            "program {index}, {setting:?}"
+        );
     }
+    answers[0]
 }
 
-/// The example's setting with each number in turn at and beside every limit.
-fn settings_at_limits() -> impl Iterator<Item = Setting> {
-    let limits = [1, 2, 8, 30, 32, 64, 32_767, 65_536];
-    let values = limits
-        .into_iter()
-        .flat_map(|limit| limit - 1..=limit + 1)
-        .chain([u32::MAX]);
-    values.flat_map(|value| {
-        (0..7).map(move |field| {
-            let mut numbers = apart::examples::K.numbers();
-            numbers[field] = value;
-            Setting::from(numbers)
-        })
-    })
-}
-
-#[test]
-fn the_straightforward_challenge_check_follows_the_limits() {
-    for setting in settings_at_limits() {
-        assert_same_challenge(setting, &[], &[]);
-    }
-}
-
-/// The answer of both full checks, up to the list that of the challenge check
-/// written apart too.
+/// The answer of all full checks.
 fn full_answer(setting: Setting, ticket: &[u8]) -> Answer {
-    let best = best::full_check(setting, ticket);
-    let straightforward = straightforward::full_check(setting, ticket);
-    assert_eq!(best, straightforward, "{setting:?}");
-    let reading = apart::challenge_check(&apart_setting(setting), ticket, &[]);
-    if reading.number < 10 {
-        assert_eq!(apart::Answer::from(best.numbers()), reading);
-    } else {
-        assert!(best.number == 0 || best.number == 16);
+    let right = apart::full_check(&apart_setting(setting), ticket);
+    let answers = PROGRAMS.each_ref().map(|program| (program.full_check)(setting, ticket));
+    for (index, answer) in answers.iter().enumerate() {
+        assert_eq!(
+            apart::Answer::from(answer.numbers()),
+            right,
+            "program {index}, {setting:?}"
+        );
     }
-    best
+    answers[0]
 }
 
-/// The answer of both writers and what they leave of an output of this length,
+/// The answer of all writers and what they leave of an output of this length,
 /// which is not zeros before.
 fn written(setting: Setting, a: &[i32], b: &[i32], length: usize) -> (Answer, Vec<u8>) {
     let before: Vec<u8> = (0..length).map(|index| (index * 89 + 7) as u8).collect();
-    let [(best, best_output), (straightforward, straightforward_output)] =
-        [best::write_ticket as Writer, straightforward::write_ticket].map(|write| {
-            let mut output = before.clone();
-            let answer = write(setting, a, b, &mut output);
-            (answer, output)
-        });
-    assert_eq!(best, straightforward, "{setting:?}");
-    assert!(best_output == straightforward_output, "{setting:?}");
-    let changed = if best.number == 0 { best.place as usize } else { 0 };
-    assert!(best_output[changed..] == before[changed..], "{setting:?}");
-    (best, best_output)
+    let mut right_output = before.clone();
+    let right = apart::write_ticket(&apart_setting(setting), a, b, &mut right_output);
+    let answers = PROGRAMS.each_ref().map(|program| {
+        let mut output = before.clone();
+        let answer = (program.write_ticket)(setting, a, b, &mut output);
+        assert!(output == right_output, "{setting:?}");
+        answer
+    });
+    for (index, answer) in answers.iter().enumerate() {
+        assert_eq!(
+            apart::Answer::from(answer.numbers()),
+            right,
+            "program {index}, {setting:?}"
+        );
+    }
+    let changed = if right.number == 0 { right.place as usize } else { 0 };
+    assert!(right_output[changed..] == before[changed..], "{setting:?}");
+    (answers[0], right_output)
 }
 
-/// The ticket of both writers, which is that of the implementation written
-/// apart, and which both checks accept.
+/// The ticket of all writers, which all full checks accept.
 fn true_ticket(setting: Setting, a: &[i32], b: &[i32]) -> Vec<u8> {
-    let [wide_a, wide_b] = [a, b].map(|matrix| matrix.iter().copied().map(i64::from).collect::<Vec<_>>());
-    let right = apart::true_ticket(&apart_setting(setting), &wide_a, &wide_b);
-    let (answer, output) = written(setting, a, b, right.len() + 19);
+    let length = apart::make::ticket_length(&apart_setting(setting)) as usize;
+    let (answer, mut output) = written(setting, a, b, length + 19);
     let products = setting.rows * setting.inner * setting.columns;
-    assert_eq!(answer.numbers(), [0, right.len() as u32, 0, products], "{setting:?}");
-    assert!(output[..right.len()] == right, "{setting:?}");
-    assert_eq!(
-        full_answer(setting, &right).numbers(),
-        [0, 0, 0, products],
-        "{setting:?}"
-    );
-    right
+    assert_eq!(answer.numbers(), [0, length as u32, 0, products], "{setting:?}");
+    output.truncate(length);
+    let answer = full_answer(setting, &output);
+    assert_eq!(answer.numbers(), [0, 0, 0, products], "{setting:?}");
+    output
 }
 
 /// SplitMix64.
@@ -209,6 +166,18 @@ impl Generator {
         [setting.rows * setting.inner, setting.inner * setting.columns].map(|count| self.matrix(setting, count))
     }
 
+    /// A list: any numbers, numbers at the edges, or mostly zeros.
+    fn list(&mut self, setting: Setting) -> Vec<u32> {
+        let kind = self.below(4);
+        (0..setting.vectors * setting.columns)
+            .map(|_| match kind {
+                0 => self.choose(&[0, 1, P - 1, 1 << 30, (1 << 30) - 1, 0x7fff_8000, 0x7fff]),
+                1 if self.below(4) > 0 => 0,
+                _ => self.below(P as usize) as u32,
+            })
+            .collect()
+    }
+
     /// A value at the edge of some test.
     fn edge(&mut self, setting: Setting) -> u32 {
         let half = 1 << (setting.width - 1);
@@ -246,6 +215,24 @@ impl Generator {
         }
     }
 
+    /// Puts another quotient or remainder within its range in place of one.
+    fn change_claim(&mut self, setting: Setting, ticket: &mut [u8]) {
+        let claims = (setting.rows * setting.columns) as usize;
+        let index = self.below(2 * claims);
+        let start = ticket.len() - 16 * claims + 8 * index;
+        let value: &mut [u8; 4] = (&mut ticket[start + 4..start + 8]).try_into().unwrap();
+        let before = i64::from(u32::from_le_bytes(*value));
+        let half = 1i64 << (setting.width - 1);
+        // Shifted, a quotient is from 0 to 2^v - 1.
+        let (shift, count) = match index {
+            index if index < claims => (half, 2 * half),
+            _ => (0, i64::from(setting.scale)),
+        };
+        let shifted = (before + shift) % i64::from(P);
+        let other = (shifted + 1 + self.below(count as usize - 1) as i64) % count;
+        *value = ((other - shift).rem_euclid(i64::from(P)) as u32).to_le_bytes();
+    }
+
     /// Moves a quotient by one and its remainder by the scale against it, so
     /// that the sum is kept.
     fn shift_claim(&mut self, setting: Setting, ticket: &mut [u8]) {
@@ -264,36 +251,76 @@ impl Generator {
     }
 }
 
+/// The example's setting with each number in turn at and beside every limit.
+fn settings_at_limits() -> impl Iterator<Item = Setting> {
+    let limits = [1, 2, 8, 30, 32, 64, 32_767, 65_536];
+    let values = limits
+        .into_iter()
+        .flat_map(|limit| limit - 1..=limit + 1)
+        .chain([u32::MAX]);
+    values.flat_map(|value| {
+        (0..7).map(move |field| {
+            let mut numbers = apart::examples::K.numbers();
+            numbers[field] = value;
+            Setting::from(numbers)
+        })
+    })
+}
+
 #[test]
-fn full_checks_and_writers_agree_on_random_inputs() {
+fn all_agree_on_random_inputs() {
     let mut generator = Generator(1);
-    let mut seen = BTreeSet::new();
-    for round in 0..1500 {
+    let mut seen_challenge = BTreeSet::new();
+    let mut seen_full = BTreeSet::new();
+    for round in 0..1000 {
         let size = if round % 8 == 0 { 32 } else { 4 };
         let setting = generator.setting(size);
         let [a, b] = generator.matrices(setting);
         let ticket = true_ticket(setting, &a, &b);
-        for damages in [1, 1, 1, 1, 1, 1, 2, 3] {
-            let mut damaged = ticket.clone();
-            for _ in 0..damages {
-                generator.damage(setting, &mut damaged);
-            }
-            seen.insert(full_answer(setting, &damaged).number);
-        }
+        let list = generator.list(setting);
+        assert_eq!(challenge_answer(setting, &ticket, &list).number, 0);
+        let mut tickets: Vec<Vec<u8>> = [1, 1, 1, 1, 1, 1, 2, 3]
+            .into_iter()
+            .map(|damages| {
+                let mut damaged = ticket.clone();
+                for _ in 0..damages {
+                    generator.damage(setting, &mut damaged);
+                }
+                damaged
+            })
+            .collect();
         let mut shifted = ticket.clone();
         generator.shift_claim(setting, &mut shifted);
-        seen.insert(full_answer(setting, &shifted).number);
+        tickets.push(shifted);
+        for _ in 0..3 {
+            let mut untrue = ticket.clone();
+            generator.change_claim(setting, &mut untrue);
+            tickets.push(untrue);
+        }
+        for ticket in tickets {
+            let list = generator.list(setting);
+            seen_full.insert(full_answer(setting, &ticket).number);
+            seen_challenge.insert(challenge_answer(setting, &ticket, &list).number);
+        }
+        let mut other = list.clone();
+        let place = generator.below(other.len());
+        other[place] = generator.choose(&[P - 1, P, P + 1, 1 << 31, u32::MAX]);
+        seen_challenge.insert(challenge_answer(setting, &ticket, &other).number);
+        seen_challenge.insert(challenge_answer(setting, &ticket, &list[1..]).number);
     }
-    assert_eq!(seen, BTreeSet::from([0, 5, 6, 7, 8, 9, 16]));
+    assert_eq!(seen_full, BTreeSet::from([0, 5, 6, 7, 8, 9, 16]));
+    assert_eq!(seen_challenge, BTreeSet::from([0, 5, 6, 7, 8, 9, 10, 11, 12]));
 }
 
-/// Every width of a row, as the fast ones have several ways for them.
+/// Every width of a row, as the fast ones have several ways for them, with entries
+/// of all widths.
 #[test]
-fn full_checks_and_writers_agree_at_every_size() {
+fn all_agree_at_every_size() {
     let mut generator = Generator(2);
     for inner in 1..=64 {
-        for (rows, columns) in [(1, 1), (3, 2), (2, 5), (7, 32), (32, 31), (32, 32)] {
-            let mut setting = Setting::from([rows, inner, columns, 1, 1000, 1000, 18]);
+        for (rows, columns) in [(1, 1), (3, 2), (2, 5), (7, 32), (32, 31), (32, 32), (6, 11), (5, 19)] {
+            let vectors = generator.number(1, 8);
+            let mut setting = Setting::from([rows, inner, columns, vectors, 1000, 1000, 18]);
             if generator.below(2) == 0 {
                 // Sums as great as they can be.
                 setting.scale = 32_767;
@@ -302,41 +329,101 @@ fn full_checks_and_writers_agree_at_every_size() {
             }
             let [a, b] = generator.matrices(setting);
             let ticket = true_ticket(setting, &a, &b);
-            for _ in 0..10 {
+            let list = generator.list(setting);
+            challenge_answer(setting, &ticket, &list);
+            for _ in 0..2 {
                 let mut damaged = ticket.clone();
                 generator.damage(setting, &mut damaged);
                 full_answer(setting, &damaged);
+                challenge_answer(setting, &damaged, &list);
+                let mut untrue = ticket.clone();
+                generator.change_claim(setting, &mut untrue);
+                full_answer(setting, &untrue);
+                challenge_answer(setting, &untrue, &list);
             }
+        }
+    }
+}
+
+/// Every shape of few rows and columns.
+#[test]
+fn all_agree_at_small_sizes() {
+    let mut generator = Generator(5);
+    for shape in 0..9 * 9 * 9 {
+        let [rows, inner, columns] = [1 + shape % 9, 1 + shape / 9 % 9, 1 + shape / 81];
+        for vectors in [1, 2, 3, 4, 5, 8] {
+            let setting = Setting::from([rows, inner, columns, vectors, 10, 8, 8]);
+            let [a, b] = generator.matrices(setting);
+            let mut ticket = true_ticket(setting, &a, &b);
+            let list = generator.list(setting);
+            assert_eq!(challenge_answer(setting, &ticket, &list).number, 0);
+            generator.change_claim(setting, &mut ticket);
+            assert_eq!(full_answer(setting, &ticket).number, 16);
+            challenge_answer(setting, &ticket, &list);
+            generator.damage(setting, &mut ticket);
+            full_answer(setting, &ticket);
+            challenge_answer(setting, &ticket, &list);
         }
     }
 }
 
 /// Each record of a ticket, with each bit changed and at each edge.
 #[test]
-fn full_checks_agree_on_every_record() {
+fn all_agree_on_every_record() {
     let mut generator = Generator(3);
     for setting in [
         [3, 3, 2, 1, 10, 8, 6],
+        [1, 2, 2, 2, 10, 8, 6],
         // The greatest bound of all, and the only scale and width that fit it.
         [4, 1, 5, 1, 32_767, 32_767, 16],
-        [2, 5, 6, 1, 65_535, 14_653, 15],
+        [2, 5, 6, 8, 65_535, 14_653, 15],
+        [3, 3, 3, 3, 65_535, 17_918, 15],
         [5, 9, 5, 1, 2, 7_723, 29],
-        [4, 17, 4, 1, 3, 1, 29],
+        [4, 17, 4, 4, 3, 1, 29],
     ] {
         let setting = Setting::from(setting);
         let [a, b] = generator.matrices(setting);
         let ticket = true_ticket(setting, &a, &b);
+        let list = generator.list(setting);
         for bit in 0..8 * ticket.len() {
             let mut damaged = ticket.clone();
             damaged[bit / 8] ^= 1 << (bit % 8);
             full_answer(setting, &damaged);
+            challenge_answer(setting, &damaged, &list);
         }
         for start in (0..ticket.len()).step_by(8) {
-            for _ in 0..50 {
+            for _ in 0..30 {
                 let mut damaged = ticket.clone();
                 damaged[start + 4..start + 8].copy_from_slice(&generator.edge(setting).to_le_bytes());
                 full_answer(setting, &damaged);
+                challenge_answer(setting, &damaged, &list);
             }
+        }
+        for place in 0..list.len() {
+            let mut other = list.clone();
+            other[place] = P;
+            assert_eq!(challenge_answer(setting, &ticket, &other).number, 11);
+        }
+    }
+}
+
+/// Entries of every width are multiplied rightly: one entry of A is each number in
+/// turn, the others are random.
+#[test]
+fn every_entry_is_read() {
+    let mut generator = Generator(6);
+    for (inner, bound, scale, width) in [(4, 16_382, 65_535, 15), (1, 32_767, 32_767, 16)] {
+        let setting = Setting::from([2, inner, 5, 1, scale, bound, width]);
+        let [mut a, b] = generator.matrices(setting);
+        let list = generator.list(setting);
+        for entry in (-(bound as i32)..=bound as i32).step_by(3) {
+            let place = generator.below(a.len());
+            a[place] = entry;
+            let mut output = vec![0; apart::make::ticket_length(&apart_setting(setting)) as usize];
+            assert_eq!(best::write_ticket(setting, &a, &b, &mut output).number, 0);
+            assert_eq!(dikdumar::full_check(setting, &output).number, 0);
+            assert_eq!(best::full_check(setting, &output).number, 0);
+            assert_eq!(best::challenge_check(setting, &output, &list).number, 0);
         }
     }
 }
@@ -344,22 +431,60 @@ fn full_checks_agree_on_every_record() {
 /// Wherever the only untrue claim is, its place is told.
 #[test]
 fn every_untrue_claim_is_found() {
-    let input = Input::new([32, 64, 32], 1);
-    for place in 0..32 * 32 {
+    let input = Input::new([32, 3, 32]);
+    let columns = 32;
+    for place in 0..32 * columns {
         let mut ticket = input.ticket.clone();
-        let start = ticket.len() - 8 * (32 * 32 - place);
+        let start = ticket.len() - 8 * (32 * columns - place);
         let remainder: &mut [u8; 4] = (&mut ticket[start + 4..start + 8]).try_into().unwrap();
         *remainder = ((u32::from_le_bytes(*remainder) + 1) % 1000).to_le_bytes();
         let answer = full_answer(input.setting, &ticket);
-        assert_eq!(answer.numbers(), [16, place as u32, 0, 64 * (place as u32 + 1)]);
+        assert_eq!(answer.numbers(), [16, place as u32, 0, 3 * (place as u32 + 1)]);
+
+        // Vectors that do not see the column pass.
+        let mut list = input.list.clone();
+        for vector in list.chunks_exact_mut(columns).take(place % 8) {
+            vector[place % columns] = 0;
+        }
+        let answer = challenge_answer(input.setting, &ticket, &list);
+        assert_eq!(
+            [answer.number, answer.place, answer.row],
+            [12, place as u32 % 8, (place / columns) as u32]
+        );
+    }
+}
+
+/// The vectors and the rows of a ticket with several untrue claims: the first
+/// vector decides, and then the first row.
+#[test]
+fn the_first_vector_and_row_are_found() {
+    let mut generator = Generator(7);
+    for round in 0..2000 {
+        let mut setting = generator.setting(if round % 10 == 0 { 32 } else { 9 });
+        setting.vectors = generator.number(1, 8);
+        let [a, b] = generator.matrices(setting);
+        let mut ticket = vec![0; apart::make::ticket_length(&apart_setting(setting)) as usize];
+        best::write_ticket(setting, &a, &b, &mut ticket);
+        for _ in 0..generator.below(4) + 1 {
+            generator.change_claim(setting, &mut ticket);
+        }
+        // Mostly zeros.
+        let list: Vec<u32> = (0..setting.vectors * setting.columns)
+            .map(|_| match generator.below(12) {
+                0 => generator.below(P as usize) as u32,
+                _ => 0,
+            })
+            .collect();
+        challenge_answer(setting, &ticket, &list);
     }
 }
 
 #[test]
-fn full_checks_and_writers_agree_on_refusals() {
+fn all_agree_on_refusals() {
     let mut generator = Generator(4);
     let mut seen = BTreeSet::new();
     for setting in settings_at_limits() {
+        seen.insert(challenge_answer(setting, &[], &[]).number);
         seen.insert(full_answer(setting, &[]).number);
         seen.insert(written(setting, &[], &[], 0).0.number);
     }
@@ -367,13 +492,20 @@ fn full_checks_and_writers_agree_on_refusals() {
         let setting = generator.setting(if round % 20 == 0 { 32 } else { 5 });
         let [mut a, mut b] = generator.matrices(setting);
         let ticket = true_ticket(setting, &a, &b);
+        let list = generator.list(setting);
         for length in [0, 1, 7, 8, ticket.len() - 8, ticket.len() - 1] {
             seen.insert(full_answer(setting, &ticket[..length]).number);
+            seen.insert(challenge_answer(setting, &ticket[..length], &list).number);
             seen.insert(written(setting, &a, &b, length).0.number);
         }
         let longer = [&ticket[..], &[0; 8]].concat();
         for length in [ticket.len() + 1, ticket.len() + 8] {
             seen.insert(full_answer(setting, &longer[..length]).number);
+            seen.insert(challenge_answer(setting, &longer[..length], &list).number);
+        }
+        let longer = [&list[..], &[0]].concat();
+        for list in [&[], &list[1..], &longer] {
+            seen.insert(challenge_answer(setting, &ticket, list).number);
         }
         let length = generator.choose(&[0, ticket.len() - 1, ticket.len(), ticket.len() + 5]);
         seen.insert(written(setting, &a[1..], &b, length).0.number);
@@ -408,5 +540,22 @@ fn full_checks_and_writers_agree_on_refusals() {
         longer.push(0);
         seen.insert(written(setting, &a, &longer, length).0.number);
     }
-    assert_eq!(seen, BTreeSet::from([1, 2, 3, 4, 13, 14, 15]));
+    assert_eq!(seen, BTreeSet::from([1, 2, 3, 4, 10, 13, 14, 15]));
+}
+
+/// A ticket may begin at any address.
+#[test]
+fn no_address_is_special() {
+    for sizes in [[1, 1, 1], [3, 3, 3], [8, 8, 8]] {
+        let input = Input::new(sizes);
+        let mut room = vec![0; input.ticket.len() + 16];
+        for shift in 0..16 {
+            let shifted = &mut room[shift..shift + input.ticket.len()];
+            let answer = (PROGRAMS[2].write_ticket)(input.setting, &input.a, &input.b, shifted);
+            assert_eq!(answer.number, 0);
+            assert!(*shifted == input.ticket);
+            assert_eq!(challenge_answer(input.setting, shifted, &input.list).number, 0);
+            assert_eq!(full_answer(input.setting, shifted).number, 0);
+        }
+    }
 }
