@@ -23,9 +23,9 @@ use ticket::Setting;
 const FEW: usize = 64;
 
 // The most entries of A, and the most claims.
-const ENTRIES: usize = 2048;
+const ENTRIES: usize = (Setting::MOST_ROWS * Setting::MOST_INNER) as usize;
 
-const CLAIMS: usize = 1024;
+const CLAIMS: usize = (Setting::MOST_ROWS * Setting::MOST_COLUMNS) as usize;
 
 // All rows for all vectors of a list. For a small ticket the lists that it is decoded to are short, since clearing them takes time.
 pub(crate) fn check_list(setting: Setting, ticket: &[u8], list: &[u32]) -> Answer

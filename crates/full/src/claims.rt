@@ -16,10 +16,10 @@ use ticket::RECORD;
 use ticket::Setting;
 
 // The most entries of an operand.
-const ENTRIES: usize = 2048;
+const ENTRIES: usize = (Setting::MOST_ROWS * Setting::MOST_INNER) as usize;
 
 // The most claims.
-const CLAIMS: usize = 1024;
+const CLAIMS: usize = (Setting::MOST_ROWS * Setting::MOST_COLUMNS) as usize;
 
 // Tickets of at most so many entries and claims are worked through in small arrays, which take little time to clear.
 const FEW: usize = 192;

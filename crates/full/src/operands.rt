@@ -30,13 +30,13 @@ pub(crate) fn columns(records: &[u8], height: usize, width: usize, list: &mut [i
 {
     let mut row = 0;
     while row < height {
-        spread(records, height, width, row, list);
+        turn_row(records, height, width, row, list);
         row += 1;
     }
 }
 
 // One row of the matrix: an entry for each column.
-fn spread(records: &[u8], height: usize, width: usize, row: usize, list: &mut [i16])
+fn turn_row(records: &[u8], height: usize, width: usize, row: usize, list: &mut [i16])
     requires { ⌜ (row < height) × NarrowRecords (now records) (height * width) (length (now list)) × ColumnsTo (pos 0) (length (now list)) height width (row * width) (entryAt (now records)) (now list) ⌝ }
     ensures { λ r. ⌜ ColumnsTo (pos 0) (length (now (list .entry))) height width (row * width + width) (entryAt (now (records .entry))) (now (list .exit)) ⌝ }
 {

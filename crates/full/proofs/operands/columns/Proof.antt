@@ -18,8 +18,8 @@ abbrev μ-loop : tie.MeasureT-loop
 loop-holds : tie.Need-loop-holds Inv-loop μ-loop
 loop-holds c = (omega arith, columns-fewer _ _ _ _ _ (columns-none _ _ _ _ _ refl) (omega arith))
 
-spread-requires : tie.Need-spread-requires Inv-loop μ-loop
-spread-requires c κs = (c .before .loop-test .taken, rw (c .before .before .loop .inv .1 .long) (c .before .before .before .before .pre), rw (c .before .before .loop .inv .1 .long) (c .before .before .loop .inv .1))
+turn-row-requires : tie.Need-turn-row-requires Inv-loop μ-loop
+turn-row-requires c κs = (c .before .loop-test .taken, rw (c .before .before .loop .inv .1 .long) (c .before .before .before .before .pre), rw (c .before .before .loop .inv .1 .long) (c .before .before .loop .inv .1))
 
 add-row : tie.Need-add-row Inv-loop μ-loop
 add-row c = omega (arith, c .before .before .before .before .before .before .fits)
@@ -28,7 +28,7 @@ loop-less : tie.Need-loop-less Inv-loop μ-loop
 loop-less c = omega arith
 
 loop-again : tie.Need-loop-again Inv-loop μ-loop
-loop-again c = (omega arith, rw (← c .before .before .before .before .loop .inv .1 .long) (columns-fewer _ _ _ _ _ (c .before .spread .ensures) (omega arith)))
+loop-again c = (omega arith, rw (← c .before .before .before .before .loop .inv .1 .long) (columns-fewer _ _ _ _ _ (c .before .turn-row .ensures) (omega arith)))
 
 same-length : tie.Need-same-length Inv-loop μ-loop
 same-length c = c .before .loop .inv .1 .long
@@ -43,7 +43,7 @@ columns-spec =
     Inv-loop
     μ-loop
     loop-holds
-    spread-requires
+    turn-row-requires
     add-row
     loop-less
     loop-again

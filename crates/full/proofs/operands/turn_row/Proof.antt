@@ -8,8 +8,8 @@ use Rattle.residue.specs.Rules.{modulus, signedEntry}
 use Rattle.ticket.specs.Laws.Fills.{ColumnsTo, columns-fewer, columns-more, place-inside}
 use Rattle.ticket.specs.Laws.Positions.{position-of, row-inside}
 use Rattle.full.specs.Laws.Operands.{entryAt, entry-stored}
-use Rattle.full.proofs.operands.spread.Statement.{statement}
-use Rattle.full.proofs.operands.spread.Tie as tie
+use Rattle.full.proofs.operands.turn_row.Statement.{statement}
+use Rattle.full.proofs.operands.turn_row.Tie as tie
 
 abbrev Inv-loop : tie.InvT-loop
 Inv-loop records height width row list₀ start column₀ at₀ list column at = (column ≤ width) × (at ≡ column * height + row) × ColumnsTo (pos 0) (length list₀) height width (row * width + column) (entryAt records) list
@@ -66,8 +66,8 @@ same-length c = c .before .loop .inv .2 .long
 returns : tie.Need-returns Inv-loop μ-loop
 returns c = let columns = c .before .loop .inv .2 in record { long = columns .long; each = λ k j lk lj h. columns .each k j lk lj (omega arith) }
 
-pub spread-spec : {M : Type 1} → statement M
-spread-spec =
+pub turn-row-spec : {M : Type 1} → statement M
+turn-row-spec =
     tie.close
     (tie.spec
     Inv-loop
