@@ -10,10 +10,15 @@ ghost use Rattle.exact.specs.Laws.Products.{sumWith};
 // 2^32
 const WORD: u64 = 4_294_967_296;
 
-// Products are added up in blocks of two rows of 32: loops of fixed lengths, which a compiler lays out flat and makes many at a time.
+// Products are added up in blocks of two rows of 32, what is left in halves and a quarter of a row: loops of fixed lengths, which a
+// compiler lays out flat and makes many at a time.
 const ROW: usize = 32;
 
 const BLOCK: usize = 2 * ROW;
+
+const HALF: usize = ROW / 2;
+
+const QUARTER: usize = ROW / 4;
 
 // The sum of the products of two lists, number by number, up to the end of the shorter one, modulo 2^32.
 pub fn dot(x: &[i16], y: &[i16]) -> u32
@@ -26,7 +31,7 @@ pub fn dot(x: &[i16], y: &[i16]) -> u32
         sum = block(x, y, k, sum);
         k += BLOCK;
     }
-    products(x, y, k, count - k, sum)
+    rest(x, y, k, count - k, sum)
 }
 
 // A sum with a block of products added, from number start of both lists on, modulo 2^32.
@@ -43,7 +48,33 @@ fn block(x: &[i16], y: &[i16], start: usize, before: u32) -> u32
     sum
 }
 
-// A sum with count products added, from number start of both lists on, modulo 2^32.
+// The same with count products, half a row at a time.
+fn rest(x: &[i16], y: &[i16], start: usize, count: usize, before: u32) -> u32
+    requires { ⌜ (start + count ≤ length (now x)) × (start + count ≤ length (now y)) ⌝ }
+    ensures { λ r. ⌜ r ≡ sumWith before start count (now (x .entry)) (now (y .entry)) ⌝ }
+{
+    let mut sum = before;
+    let mut k = 0;
+    while HALF <= count - k {
+        sum = products(x, y, start + k, HALF, sum);
+        k += HALF;
+    }
+    last(x, y, start + k, count - k, sum)
+}
+
+// The same, a quarter of a row at once, where there are as many.
+fn last(x: &[i16], y: &[i16], start: usize, count: usize, before: u32) -> u32
+    requires { ⌜ (start + count ≤ length (now x)) × (start + count ≤ length (now y)) ⌝ }
+    ensures { λ r. ⌜ r ≡ sumWith before start count (now (x .entry)) (now (y .entry)) ⌝ }
+{
+    if count < QUARTER {
+        return products(x, y, start, count, before);
+    }
+    let sum = products(x, y, start, QUARTER, before);
+    products(x, y, start + QUARTER, count - QUARTER, sum)
+}
+
+// The same, one by one.
 fn products(x: &[i16], y: &[i16], start: usize, count: usize, before: u32) -> u32
     requires { ⌜ (start + count ≤ length (now x)) × (start + count ≤ length (now y)) ⌝ }
     ensures { λ r. ⌜ r ≡ sumWith before start count (now (x .entry)) (now (y .entry)) ⌝ }

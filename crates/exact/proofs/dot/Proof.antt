@@ -43,18 +43,18 @@ loop-again c =
     let inv = c .before .before .loop .inv in
     (omega arith, inv .1, inv .2, sum-further (c .before .before .before .before .args .x .now) (c .before .before .before .before .args .y .now) (c .before .before .loop .k) 64 (inv .3) (c .block .ensures))
 
-sub-products : tie.Need-sub-products Inv-loop μ-loop
-sub-products c = omega arith
+sub-rest : tie.Need-sub-rest Inv-loop μ-loop
+sub-rest c = omega arith
 
-products-requires : tie.Need-products-requires Inv-loop μ-loop
-products-requires c κs = omega arith
+rest-requires : tie.Need-rest-requires Inv-loop μ-loop
+rest-requires c κs = omega arith
 
 returns : tie.Need-returns Inv-loop μ-loop
 unfolding dotProduct
 returns c =
     let k = c .before .before .loop .k in
     let count = c .before .before .before .shorter .result in
-    sum-further (c .before .before .before .before .args .x .now) (c .before .before .before .before .args .y .now) k (count - k) (c .before .before .loop .inv .3) (c .products .ensures)
+    sum-further (c .before .before .before .before .args .x .now) (c .before .before .before .before .args .y .now) k (count - k) (c .before .before .loop .inv .3) (c .rest .ensures)
     ∙ ap (λ n. sumWith 0 0 n (c .before .before .before .before .args .x .now) (c .before .before .before .before .args .y .now)) (omega (arith, c .before .before .before .shorter .ensures)) ∙ sum-all (c .before .before .before .before .args .x .now) (c .before .before .before .before .args .y .now) _
 
 pub dot-spec : {M : Type 1} → statement M
@@ -70,6 +70,6 @@ dot-spec =
     add-k
     loop-less
     loop-again
-    sub-products
-    products-requires
+    sub-rest
+    rest-requires
     returns)
