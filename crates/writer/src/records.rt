@@ -8,7 +8,7 @@ ghost use Rattle.writer.specs.Rules.{ticketOf};
 ghost use Rattle.writer.specs.Laws.Operands.{residueIn};
 ghost use Rattle.writer.specs.Laws.Puts.{putAt};
 ghost use Rattle.writer.specs.Laws.Sums.{WriteReady};
-ghost use Rattle.writer.specs.Laws.Writes.{lineRecords, LineReady, PartReady, recordsTo, wordsOf};
+ghost use Rattle.writer.specs.Laws.PartRecords.{lineRecords, LineReady, PartReady, recordsTo, wordsOf};
 use crate::claims::write_claims;
 use crate::operands::residue;
 use ticket::RECORD;

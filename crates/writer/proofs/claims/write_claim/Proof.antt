@@ -1,4 +1,4 @@
-use Rattle.writer.specs.Laws.Writes.{claim-written}
+use Rattle.writer.specs.Laws.ClaimRecords.{claim-written}
 use borrow.Author.Needs.{needs}
 use Rattle.writer.proofs.claims.write_claim.Statement.{statement}
 use Rattle.writer.proofs.claims.write_claim.Tie as tie

@@ -1,10 +1,11 @@
-use Prim.Native.Nat.{_+_, _-_, _*_, _≤_}
+use Prim.Native.Nat.{_+_, _-_, _*_, _≤_, _<_}
 use native.Mathlib.Omega.{arith}
 use mathlib.Core.Path.{_≡_, ap, _∙_}
 use lib.ListN.{length}
 use borrow.Author.Needs.{needs}
 use Rattle.ticket.specs.Laws.Positions.{row-inside}
-use Rattle.writer.specs.Laws.Writes.{headerOf, claimPut, lineClaims, line-claims-none, line-claims-long, claim-put}
+use Rattle.writer.specs.Laws.PartRecords.{headerOf}
+use Rattle.writer.specs.Laws.ClaimRecords.{claimPut, lineClaims, line-claims-none, line-claims-long, claim-put}
 use Rattle.writer.proofs.claims.write_row.Statement.{statement}
 use Rattle.writer.proofs.claims.write_row.Tie as tie
 
@@ -24,9 +25,12 @@ long c =
     line-claims-long (start c .args .setting) (start c .args .x .now) (start c .args .y .now) (start c .args .row) (start c .args .quotients) (start c .args .remainders)
     (c .loop .column) (start c .args .output .now) (omega (arith, start c .pre .apart)) (omega (arith, start c .pre .room)) (c .loop .inv .2)
 
+more : (c : tie.In-loop Inv-loop μ-loop) → c .before .loop .column < start (c .before) .args .setting .columns
+more c = c .loop-test .taken
+
 inside : (c : tie.In-loop Inv-loop μ-loop)
     → c .before .loop .column * start (c .before) .args .setting .inner + start (c .before) .args .setting .inner ≤ length (start (c .before) .args .y .now)
-inside c = omega (arith, row-inside (start (c .before) .args .setting .inner) (c .loop-test .taken), start (c .before) .pre .lines)
+inside c = omega (arith, row-inside (start (c .before) .args .setting .inner) (more c), start (c .before) .pre .lines)
 
 cast-inner : tie.Need-cast-inner Inv-loop μ-loop
 cast-inner c = search needs

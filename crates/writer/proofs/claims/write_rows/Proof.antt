@@ -5,7 +5,7 @@ use mathlib.Core.Path.{_≡_}
 use lib.ListN.{length}
 use borrow.Author.Needs.{needs}
 use Rattle.ticket.specs.Laws.Positions.{row-inside}
-use Rattle.writer.specs.Laws.Writes.{claimsTo, claims-none, claims-long, claims-put, remaindersFrom}
+use Rattle.writer.specs.Laws.ClaimRecords.{claimsTo, claims-none, claims-long, claims-put, remaindersFrom}
 use Rattle.writer.proofs.claims.write_rows.Statement.{statement}
 use Rattle.writer.proofs.claims.write_rows.Tie as tie
 

@@ -1,7 +1,7 @@
 use native.Mathlib.Omega.{arith}
 use lib.ListN.{take}
 use lib.Seq.{lt-length-sets}
-use Rattle.writer.specs.Laws.Writes.{wordsOf, words-put}
+use Rattle.writer.specs.Laws.PartRecords.{wordsOf, words-put}
 use borrow.Author.Needs.{needs}
 use Rattle.writer.proofs.records.put.Statement.{statement}
 use Rattle.writer.proofs.records.put.Tie as tie

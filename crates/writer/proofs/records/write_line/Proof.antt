@@ -13,7 +13,7 @@ use Rattle.ticket.specs.Laws.Fills.{part-long}
 use Rattle.writer.specs.Rules.{joined}
 use Rattle.writer.specs.Laws.Operands.{residueIn}
 use Rattle.writer.specs.Laws.Puts.{putAt, put-none}
-use Rattle.writer.specs.Laws.Writes.{headerOf, lineRecords, length-line, records-long, line-put}
+use Rattle.writer.specs.Laws.PartRecords.{headerOf, lineRecords, length-line, records-long, line-put}
 use Rattle.writer.proofs.records.write_line.Statement.{statement}
 use Rattle.writer.proofs.records.write_line.Tie as tie
 

@@ -11,7 +11,7 @@ use Rattle.ticket.specs.Laws.Positions.{row-inside}
 use Rattle.writer.specs.Rules.{joined}
 use Rattle.writer.specs.Laws.Operands.{residueIn, narrow-part}
 use Rattle.writer.specs.Laws.Puts.{putAt, put-none}
-use Rattle.writer.specs.Laws.Writes.{recordsTo, length-part, records-long, part-put}
+use Rattle.writer.specs.Laws.PartRecords.{recordsTo, length-part, records-long, part-put}
 use Rattle.writer.proofs.records.write_part.Statement.{statement}
 use Rattle.writer.proofs.records.write_part.Tie as tie
 
