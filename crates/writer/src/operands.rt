@@ -13,7 +13,7 @@ use residue::Residue;
 use ticket::Answer;
 use ticket::Setting;
 
-// The most entries of an operand.
+// The most entries of an operand: B has no more than A.
 pub(crate) const ENTRIES: usize = (Setting::MOST_ROWS * Setting::MOST_INNER) as usize;
 
 // The answer of the tests 13 and 14; its number is 0 where they pass.

@@ -66,7 +66,7 @@ pub record ClaimReady (G : Setting) (half header q r : ℕ) (output : List ℕ) 
   pub half-is : half ≡ powerOfTwo (G .width - 1)
   pub small : header < 2 ^ 31
   pub apart : q < r
-  pub early : r ≤ 2 ^ 17
+  pub early : r ≤ 2 ^ 16
   pub room : recordBytes * r + recordBytes ≤ length output
 
 pub record RowReady (G : Setting) (half : ℕ) (Y : List ℤ) (q r : ℕ) (output : List ℕ) : Type 0 where
@@ -76,7 +76,7 @@ pub record RowReady (G : Setting) (half : ℕ) (Y : List ℤ) (q r : ℕ) (outpu
   pub half-is : half ≡ powerOfTwo (G .width - 1)
   pub lines : G .inner * G .columns ≤ length Y
   pub apart : q + G .columns ≤ r
-  pub early : r ≤ 2 ^ 16
+  pub early : r + G .columns ≤ 2 ^ 16
   pub room : recordBytes * (r + G .columns) ≤ length output
 
 pub record ClaimsReady (G : Setting) (X Y : List ℤ) (output : List ℕ) : Type 0 where

@@ -40,14 +40,14 @@ use Rattle.residue.specs.Laws.Residues.{residue-below, residue-of-residue, resi
 use Rattle.residue.specs.Laws.Signed.{widened, narrowed-is, narrowed-fits}
 use Rattle.ticket.specs.declared.setting.Setting.{Setting}
 use Rattle.ticket.specs.declared.Answer.{Answer}
-use Rattle.ticket.specs.Rules.{unless, refusal, firstRefusal, after}
+use Rattle.ticket.specs.Rules.{mostRows, mostInner, unless, refusal, firstRefusal, after}
 use Rattle.ticket.specs.Laws.All.{all, all-at}
 use Rattle.ticket.specs.Laws.Fills.{ColumnsTo, columns-more, part-of, part-long}
 use Rattle.ticket.specs.Laws.Scans.{refusal-none, refusal-is, refusal-cong, refusal-split, after-passed, after-refused}
 use Rattle.writer.specs.Rules.{operandNumber, operandsReading}
 
 abbrev pub mostEntries : ℕ
-mostEntries = 2048
+mostEntries = mostRows * mostInner
 
 abbrev pub entryIn : List ℤ → ℕ → ℤ
 entryIn x k = getD x k (pos 0)

@@ -21,7 +21,7 @@ use lib.Arith.{digits-div, digits-mod}
 use lib.IntN.{ℤ}
 use lib.ListN.{length, take, drop, drop-of-length-le}
 use lib.Seq.{sets, sets-eq}
-use Rattle.ticket.specs.Rules.{recordBytes}
+use Rattle.ticket.specs.Rules.{mostInner, recordBytes}
 use Rattle.writer.specs.Rules.{joined, recordOf}
 use Rattle.writer.specs.Laws.Records.{joined-more, joined-add, joined-cong, length-joined, length-recordOf, bytes-of-value}
 use Rattle.writer.specs.Laws.Operands.{Narrow}
@@ -96,13 +96,13 @@ part-more kind width f g row same =
 -- the records of an operand
 
 pub record LineReady (output : List ℕ) (start : ℕ) (entries : List ℤ) : Type 0 where
-  pub wide : length entries ≤ 64
+  pub wide : length entries ≤ mostInner
   pub narrow : Narrow entries
   pub room : recordBytes * (start + length entries) ≤ length output
 
 pub record PartReady (output : List ℕ) (start height width : ℕ) (operand : List ℤ) : Type 0 where
-  pub high : height ≤ 64
-  pub wide : width ≤ 64
+  pub high : height ≤ mostInner
+  pub wide : width ≤ mostInner
   pub count : length operand ≡ height * width
   pub narrow : Narrow operand
   pub room : recordBytes * (start + height * width) ≤ length output
