@@ -1,11 +1,9 @@
 // Test 12: every row, for every vector.
 ghost use mathlib.Core.Path.{_≡_};
 ghost use Prim.Native.Nat.{_+_};
-ghost use lib.Dec.{eqb};
 ghost use lib.ListN.{length};
 ghost use Rattle.challenge.specs.Rules.{verdict};
-ghost use Rattle.challenge.specs.Laws.Products.{dotWith};
-ghost use Rattle.challenge.specs.Laws.Rows.{agrees, Decoded, RowReady, RowsReady};
+ghost use Rattle.challenge.specs.Laws.Rows.{agrees, sidesEqual, Decoded, RowReady, RowsReady};
 ghost use Rattle.challenge.specs.Laws.Vectors.{rowAnswer, rowsAnswer, vectorAnswer, DecodeReady, ListReady, VectorReady};
 use crate::decode::lifted_claims;
 use crate::decode::shifted_entries;
@@ -19,7 +17,7 @@ use ticket::Answer;
 use ticket::RECORD;
 use ticket::Setting;
 
-// Entries of A, or claims, up to which a ticket is small.
+// A ticket with at most so many entries of A, and as many claims, is small.
 const FEW: usize = 64;
 
 // The most entries of A, and the most claims.
@@ -103,7 +101,8 @@ fn check_vectors(
     answer
 }
 
-// All rows for one vector, number t, from the products made before it.
+// All rows for one vector, number t, from the products made before it. B is read as a part: the matrix-vector product gets the slice
+// of the ticket that starts where B does.
 fn check_vector(
     setting: Setting,
     ticket: &[u8],
@@ -174,8 +173,9 @@ fn check_rows(
     answer
 }
 
-// One row, of A in a and of the claims in w, against vector number t, x, and its product u with B: caught, where the two sides differ;
-// left and right are the offsets of the two sides. The products made so far are handed in, and go out in the answer with those of this row.
+// One row, of A in a and of the claims in w, against vector number t, x, and its product u with B: caught, where the two sides differ.
+// The shift of the claims is taken off by left, that of the entries by right. The products made so far are handed in, and go out in
+// the answer with those of this row.
 fn check_row(
     a: &[u32],
     w: &[u32],
@@ -188,7 +188,7 @@ fn check_row(
     products: u32,
 ) -> Answer
     requires { ⌜ RowReady (now a) (now w) (now x) (now u) right products ⌝ }
-    ensures { λ r. ⌜ r ≡ rowAnswer (eqb (dotWith left (now (w .entry)) (now (x .entry))) (dotWith right (now (a .entry)) (now (u .entry)))) t row (products + length (now (x .entry)) + length (now (u .entry))) ⌝ }
+    ensures { λ r. ⌜ r ≡ rowAnswer (sidesEqual left right (now (a .entry)) (now (w .entry)) (now (x .entry)) (now (u .entry))) t row (products + length (now (x .entry)) + length (now (u .entry))) ⌝ }
 {
     let claims = wide_dot(w, x, left);
     let product = dot(a, u, right);

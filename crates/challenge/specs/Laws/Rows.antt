@@ -5,6 +5,7 @@
 --   claims-by-values   row i of the claims times a vector
 --   operands-by-values row i of A times u
 --   Decoded G t a w l  a holds the entries of A with the bound added, w the claims with l added
+--   sidesEqual m n a w x u   w times x, with the offset m, is a times u, with the offset n
 --   agrees G a w l x u i   row i of w times x, with l taken off, is row i of a times u, with the bound taken off
 --   agrees-balanced    that is, the two sides of row i are equal
 --   RowsReady G a w l x u q   the rows can be worked through for the vector x and its product u with B, after q products
@@ -97,10 +98,12 @@ pub record Decoded (G : Setting) (t a w : List ℕ) (lifted : ℕ) : Type 0 wher
       → getD w (i * G .columns + j) 0 ≡ shiftedQuotient (G .width) (valueIn t (quotients G) i j) * G .scale + valueIn t (remainders G) i j
   pub lifted-is : lifted ≡ lift G
 
+abbrev pub sidesEqual : ℕ → ℕ → List ℕ → List ℕ → List ℕ → List ℕ → Bool
+sidesEqual left right a w x u = eqb (dotWith left w x) (dotWith right a u)
+
 abbrev pub agrees : Setting → List ℕ → List ℕ → ℕ → List ℕ → List ℕ → ℕ → Bool
 agrees G a w lifted x u i =
-    eqb (dotWith (offsetOf lifted x) (lineOf w (G .columns) i) x)
-    (dotWith (offsetOf (G .bound) u) (lineOf a (G .inner) i) u)
+    sidesEqual (offsetOf lifted x) (offsetOf (G .bound) u) (lineOf a (G .inner) i) (lineOf w (G .columns) i) x u
 
 -- x is a list of one vector, number 0
 module _ {G : Setting} {t : List ℕ} (passed : Passed G t) {a w : List ℕ} {lifted : ℕ} (decoded : Decoded G t a w lifted) (x u : List ℕ)
@@ -164,10 +167,10 @@ module _ {G : Setting} {a w : List ℕ} {lifted : ℕ} {x u : List ℕ} {product
       omega (arith, row-inside (G .inner) l, row-inside (G .columns) l, ready .long-A, ready .long-claims)
 
   pub agrees-by : (i : ℕ) {left right : ℕ} → left ≡ offsetOf lifted x → right ≡ offsetOf (G .bound) u
-      → eqb (dotWith left (lineOf w (G .columns) i) x) (dotWith right (lineOf a (G .inner) i) u) ≡ agrees G a w lifted x u i
+      → sidesEqual left right (lineOf a (G .inner) i) (lineOf w (G .columns) i) x u ≡ agrees G a w lifted x u i
   agrees-by i {left} {right} l r =
-      ap (λ o. eqb (dotWith o (lineOf w (G .columns) i) x) (dotWith right (lineOf a (G .inner) i) u)) l
-      ∙ ap (λ o. eqb (dotWith (offsetOf lifted x) (lineOf w (G .columns) i) x) (dotWith o (lineOf a (G .inner) i) u)) r
+      ap (λ o. sidesEqual o right (lineOf a (G .inner) i) (lineOf w (G .columns) i) x u) l
+      ∙ ap (λ o. sidesEqual (offsetOf lifted x) o (lineOf a (G .inner) i) (lineOf w (G .columns) i) x u) r
 
 pub record RowReady (a w x u : List ℕ) (offset products : ℕ) : Type 0 where
   pub operands : DotReady a u offset
