@@ -51,7 +51,7 @@ pub record Vector (x : List ℕ) : Type 0 where
   pub below : (j : ℕ) → j < length x → getD x j 0 < modulus
 
 pub offset-made : (shift n : ℕ) (x : ℕ → ℕ) {total r : ℕ} → total ≡ sum n x → r ≡ leastResidue modulus (pos total)
-    → (2_147_483_647 - shift) * r ≡ taken-off modulus shift n x
+    → (2 ^ 31 - 1 - shift) * r ≡ taken-off modulus shift n x
 unfolding taken-off
 offset-made shift n x {total} {r} t e =
     ap (λ m. (m - shift) * r) (sym modulus-is)
