@@ -4,7 +4,10 @@
 //!     cargo run --release -p bench
 //!
 //! Beside the library stand the calls as one writes them first, the calls as
-//! fast as they get on every x86-64 processor, and, where it is installed, FLINT.
+//! fast as they get on every x86-64 processor, and, where it is installed, FLINT:
+//! of the challenge check, Freivalds' check of matrices that are in memory, with
+//! nothing read or tested, and of the full check, the product.
+//!
 //! All are timed in turns, so that whatever else the machine does falls on all;
 //! as it can only lengthen a time, the least time over the rounds is taken.
 
@@ -37,7 +40,8 @@ struct Program {
     challenge_check: fn(Setting, &[u8], &[u32]) -> Answer,
     full_check: fn(Setting, &[u8]) -> Answer,
     write_ticket: fn(Setting, &[i32], &[i32], &mut [u8]) -> Answer,
-    /// How many rows and how many vectors the challenge check takes at once.
+    /// How many rows and how many vectors the challenge check takes at once, to
+    /// tell the times of its parts.
     rows_at_once: u32,
     vectors_at_once: u32,
 }

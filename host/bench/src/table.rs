@@ -88,26 +88,34 @@ impl Display for Table {
         }
 
         writeln!(f)?;
-        writeln!(f, "| Goal, for whole calls | Met | Missed |")?;
-        writeln!(f, "|---|---|---|")?;
+        writeln!(f, "Goals, for whole calls:")?;
+        writeln!(f)?;
         for (index, (name, most)) in OTHERS.iter().enumerate() {
-            let (met, missed): (Vec<_>, Vec<_>) = self.goals(index).partition(|(_, ratio)| ratio <= most);
-            let [met, missed] = [met, missed].map(|goals| {
-                let names: Vec<String> = goals
-                    .iter()
-                    .map(|(line, _)| match line.vectors {
-                        Some(vectors) => format!("{} {}, s = {vectors}", line.name, line.size),
-                        None => format!("{} {}", line.name, line.size),
-                    })
-                    .collect();
-                if names.is_empty() {
-                    "-".to_string()
-                } else {
-                    names.join("; ")
+            let goals: Vec<(&Line, f64)> = self.goals(index).collect();
+            let missed: Vec<String> = goals
+                .iter()
+                .filter(|(_, ratio)| ratio > most)
+                .map(|(line, ratio)| format!("{line} ({ratio:.2})"))
+                .collect();
+            write!(f, "- Library / {name} at most {most:.2}: ")?;
+            match (goals.len(), missed.len()) {
+                (0, _) => writeln!(f, "not measured.")?,
+                (all, 0) => writeln!(f, "met by all {all}.")?,
+                (all, count) => {
+                    writeln!(f, "met by {} of {all}; missed by {}.", all - count, missed.join(", "))?;
                 }
-            });
-            writeln!(f, "| library / {name} at most {most:.2} | {met} | {missed} |")?;
+            }
         }
         Ok(())
+    }
+}
+
+impl Display for Line {
+    fn fmt(&self, f: &mut Formatter) -> Result {
+        write!(f, "{} {}", self.name, self.size)?;
+        match self.vectors {
+            Some(vectors) => write!(f, " s = {vectors}"),
+            None => Ok(()),
+        }
     }
 }
