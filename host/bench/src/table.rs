@@ -4,7 +4,7 @@ use std::fmt::{Display, Formatter, Result};
 
 /// The programs beside the library, and the most that the ratio of a whole call
 /// may be.
-const OTHERS: [(&str, f64); 3] = [("straightforward", 0.33), ("best", 1.10), ("FLINT", 1.00)];
+const OTHERS: [(&str, f64); 3] = [("straightforward", 1.0 / 3.0), ("best", 1.1), ("FLINT", 1.0)];
 
 #[derive(Default)]
 pub struct Table {
@@ -95,7 +95,7 @@ impl Display for Table {
             let missed: Vec<String> = goals
                 .iter()
                 .filter(|(_, ratio)| ratio > most)
-                .map(|(line, ratio)| format!("{line} ({ratio:.2})"))
+                .map(|(line, ratio)| format!("{line} ({ratio:.3})"))
                 .collect();
             write!(f, "- Library / {name} at most {most:.2}: ")?;
             match (goals.len(), missed.len()) {
