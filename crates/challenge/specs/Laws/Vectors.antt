@@ -12,7 +12,7 @@
 --   VectorReady G t x q    the vector x can be worked through after q products
 --   widened-same           the vector in 64-bit numbers is the same list
 --   matrix-ready           the slice from B on holds B
---   product-made           the product with it is u
+--   product-long, product-made   the product with it is u
 --   rows-ready             the rows are ready once u is made
 --   row-ready              so is each row
 --   vector-answered        the answer of the rows, by what they are decoded to, is that of the vector
