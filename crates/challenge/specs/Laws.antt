@@ -2,7 +2,6 @@
 --
 --   Lists      the tests of a challenge list
 --   Shifts     sums of products in which one factor is shifted
---   Decodes    what entries and claims are decoded to
 --   Products   products with a vector
 --   Rows       one row of the check
 --   Values     the values of a ticket that passes, decoded
@@ -10,7 +9,6 @@
 --   Checks     the whole check (C1)
 pub mod Lists
 pub mod Shifts
-pub mod Decodes
 pub mod Products
 pub mod Rows
 pub mod Values

@@ -5,7 +5,7 @@ ghost use lib.ListN.{length};
 ghost use Rattle.residue.specs.Rules.{modulus};
 ghost use Rattle.ticket.specs.Rules.{recordBytes, valueAt};
 ghost use Rattle.ticket.specs.Laws.Fills.{Filled};
-ghost use Rattle.challenge.specs.Laws.Decodes.{ClaimsReady, EntriesReady, liftedClaim, Shiftable, shiftedEntry};
+ghost use Rattle.ticket.specs.Laws.Decodes.{ClaimsReady, EntriesReady, liftedClaim, Shiftable, shiftedEntry};
 use ticket::RECORD;
 use ticket::word;
 

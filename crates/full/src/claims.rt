@@ -3,10 +3,11 @@ ghost use mathlib.Core.Path.{_≡_};
 ghost use Prim.Native.Nat.{_+_, _-_, _*_, _%_, _≤_, _<_};
 ghost use lib.ListN.{length};
 ghost use Rattle.residue.specs.Rules.{modulus};
+ghost use Rattle.ticket.specs.Laws.Decodes.{ClaimsReady, liftedClaim, Shiftable};
 ghost use Rattle.ticket.specs.Laws.Fills.{Filled};
 ghost use Rattle.ticket.specs.Laws.Passes.{Passed};
 ghost use Rattle.full.specs.Rules.{fullVerdict};
-ghost use Rattle.full.specs.Laws.Claims.{claimOf, ClaimsSmall, compareAnswer, comparedAnswer, ComparedTo, CompareReady, Room, RowCompared};
+ghost use Rattle.full.specs.Laws.Claims.{compareAnswer, comparedAnswer, ComparedTo, CompareReady, Room, RowCompared};
 use crate::operands::columns;
 use crate::operands::rows;
 use crate::operands::value;
@@ -23,6 +24,12 @@ const CLAIMS: usize = (Setting::MOST_ROWS * Setting::MOST_COLUMNS) as usize;
 
 // Tickets of at most so many entries and claims are worked through in small arrays, which take little time to clear.
 const FEW: usize = 192;
+
+// 2^31, which is p + 1.
+const WRAP: u32 = 2_147_483_648;
+
+// 2^30, above the values that stand for no negative number.
+const TOP: u32 = 1_073_741_824;
 
 // All claims, one after the other, up to the first untrue one.
 pub(crate) fn check_claims(setting: Setting, ticket: &[u8]) -> Answer
@@ -92,8 +99,8 @@ fn compare_claims(
 
 // What each claim puts for its sum, lifted: the quotient, with half of the quotients' range added, times the scale, and the remainder.
 fn lift(quotients: &[u8], remainders: &[u8], count: usize, half: u32, scale: u32, list: &mut [u32])
-    requires { ⌜ ClaimsSmall (now quotients) (now remainders) count half scale (length (now list)) ⌝ }
-    ensures { λ r. ⌜ Filled 0 (length (now (list .entry))) count (claimOf (now (quotients .entry)) (now (remainders .entry)) half scale) (now (list .exit)) ⌝ }
+    requires { ⌜ ClaimsReady (now quotients) (now remainders) count half scale (length (now list)) ⌝ }
+    ensures { λ r. ⌜ Filled 0 (length (now (list .entry))) count (liftedClaim (now (quotients .entry)) (now (remainders .entry)) half scale) (now (list .exit)) ⌝ }
 {
     let mut c = 0;
     while c < count {
@@ -102,16 +109,12 @@ fn lift(quotients: &[u8], remainders: &[u8], count: usize, half: u32, scale: u32
     }
 }
 
-// A quotient's value with half of the quotients' range added, modulo p.
-fn shifted(value: u32, half: u32) -> u32
-    requires { ⌜ (value < modulus) × (half < modulus) ⌝ }
-    ensures { λ r. ⌜ r ≡ (value + half) % modulus ⌝ }
+// A value with a shift added, modulo p, where the result is below 2^30: a value from 2^30 on passes p, and 1 more passes 2^31.
+fn shifted(value: u32, shift: u32) -> u32
+    requires { ⌜ Shiftable shift value ⌝ }
+    ensures { λ r. ⌜ r ≡ (value + shift) % modulus ⌝ }
 {
-    let sum = value + half;
-    if sum < Residue::MODULUS {
-        return sum;
-    }
-    sum - Residue::MODULUS
+    (value + shift + value / TOP) % WRAP
 }
 
 // Each sum, row by row, against its claim. The products made are counted in the answer.

@@ -15,6 +15,7 @@
 --   Refusals      when reading refuses, with which number and place (T3)
 --   Differences   how far the claims are from the exact sums
 --   Lifts         an exact sum, lifted so that it is not negative
+--   Decodes       what entries and claims are decoded to
 pub mod First
 pub mod Scans
 pub mod Answers
@@ -30,3 +31,4 @@ pub mod Layout
 pub mod Refusals
 pub mod Differences
 pub mod Lifts
+pub mod Decodes

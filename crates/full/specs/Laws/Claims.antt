@@ -5,12 +5,8 @@
 --   row-within, column-within   they are within their limits
 --   claimedAt G t c      what claim c puts for its sum, by the values of its records, lifted
 --   claimed-is           it is that
---   claimOf q r h a c    the same from the records of the quotients and of the remainders, h being 2^(v - 1) and a the scale
---   ClaimsSmall q r n h a s   none of the n claims is large, and a list of s numbers has room for them
---   shifted-by-half      a sum of two numbers below p, modulo p
 --   Room G a b c         there is room for the operands and the claims
---   claim-at             in a ticket that passes, the first of these is the second
---   claims-small         and none is large
+--   claim-at             what a claim of a ticket that passes is decoded to is the same
 --   comparedAnswer s y c n   the answer of a sum s and its claim y, number c, after n products
 --   sumAt A B m n l c    sum c, lifted by l, modulo 2^32: from the rows A and the columns B, m numbers each, n columns
 --   agrees A B Y m n l c   sum c is what the claims Y put for it
@@ -50,6 +46,7 @@ use Rattle.ticket.specs.declared.Answer.{Answer}
 use Rattle.ticket.specs.Rules.{unless, first, refusal, reading, mostInner, recordBytes, Part, shiftedQuotient, partA, partB, quotients, remainders, bytesOf, valueAt, valueIn, entryA, entryB, quotient, remainder, claim, exactSum}
 use Rattle.ticket.specs.Laws.Differences.{exactSum-is, size-entryA, size-entryB, size-exactSum, small-remainder}
 use Rattle.ticket.specs.Laws.First.{first-none, first-is, first-cong, true-or-false}
+use Rattle.ticket.specs.Laws.Decodes.{liftedClaim, value-from}
 use Rattle.ticket.specs.Laws.Fills.{Filled, Columns, part-of, part-long, lineOf}
 use Rattle.ticket.specs.Laws.Forms.{from, rest, from-long}
 use Rattle.ticket.specs.Laws.Layout.{value-of-part}
@@ -103,33 +100,6 @@ module _ {G : Setting} {t : List ℕ} (passed : Passed G t) {c : ℕ} (within : 
         ap (λ n. G .scale * n) (parts-difference (pos q) (pos half)),
       ))
 
--- claim c's value in a part of the claims, by its record
-claim-value : (G : Setting) (t : List ℕ) (P : Part) (c : ℕ) → P .columns ≡ G .columns
-    → valueIn t P (rowOf G c) (columnOf G c) ≡ valueAt t (P .start + c)
-unfolding valueIn
-claim-value G t P c e =
-    value-of-part t P (rowOf G c * P .columns + columnOf G c)
-    ∙ ap (valueAt t) (omega (arith, ap (λ n. rowOf G c * n) e, div-add-mod' c (G .columns)))
-
--- the lists of claims
-
-abbrev pub claimOf : List ℕ → List ℕ → ℕ → ℕ → ℕ → ℕ
-claimOf q r half scale c = (valueAt q c + half) % modulus * scale + valueAt r c
-
-pub record ClaimsSmall (q r : List ℕ) (count half scale room : ℕ) : Type 0 where
-  pub few : count ≤ room
-  pub small : room ≤ mostClaims
-  pub long-q : recordBytes * count ≤ length q
-  pub long-r : recordBytes * count ≤ length r
-  pub half-below : half < modulus
-  pub below : (c : ℕ) → c < count → valueAt q c < modulus
-  pub product : (c : ℕ) → c < count → (valueAt q c + half) % modulus * scale < 2 ^ 31
-  pub sum : (c : ℕ) → c < count → claimOf q r half scale c < 2 ^ 31
-
-pub shifted-by-half : {v h : ℕ} → v < modulus → h < modulus → ((v + h < modulus) → v + h ≡ (v + h) % modulus)
-    × ((modulus ≤ v + h) → v + h - modulus ≡ (v + h) % modulus)
-shifted-by-half {v} {h} l m = (λ small. sym (mod-eq-of-lt small), λ large. sym (mod-eq-sub-mod large ∙ mod-eq-of-lt (omega arith)))
-
 -- room for a entries of A, b of B and c claims
 pub record Room (G : Setting) (a b c : ℕ) : Type 0 where
   pub rows : G .rows * G .inner ≤ a
@@ -140,54 +110,18 @@ pub record Room (G : Setting) (a b c : ℕ) : Type 0 where
   pub few-claims : c ≤ mostClaims
 
 module _ {G : Setting} {t : List ℕ} (passed : Passed G t) {half : ℕ} (half-is : half ≡ powerOfTwo (G .width - 1)) where
-  abbrev q : List ℕ
-  q = from (recordBytes * quotients G .start) t
-
-  abbrev r : List ℕ
-  r = from (recordBytes * remainders G .start) t
-
   -- claim c's value in a part of the claims
   value-at : (P : Part) → P .columns ≡ G .columns → (c : ℕ)
       → valueAt (from (recordBytes * P .start) t) c ≡ valueIn t P (rowOf G c) (columnOf G c)
-  unfolding bytesOf
-  value-at P same c = rw (rest (recordBytes * P .start) t) (value-of-part t P c ∙ sym (claim-value G t P c same))
+  value-at P same c =
+      sym (value-from t P (rowOf G c) (columnOf G c)
+      ∙ ap (valueAt (from (recordBytes * P .start) t)) (omega (arith, ap (λ n. rowOf G c * n) same, div-add-mod' c (G .columns))))
 
-  quotient-at : (c : ℕ) → valueAt q c ≡ valueIn t (quotients G) (rowOf G c) (columnOf G c)
-  unfolding quotients
-  quotient-at = value-at (quotients G) refl
-
-  remainder-at : (c : ℕ) → valueAt r c ≡ valueIn t (remainders G) (rowOf G c) (columnOf G c)
-  unfolding remainders
-  remainder-at = value-at (remainders G) refl
-
-  pub claim-at : (c : ℕ) → claimOf q r half (G .scale) c ≡ claimedAt G t c
-  unfolding claimedAt shiftedQuotient
-  claim-at c = rw (quotient-at c, remainder-at c, half-of {G = G} (passed .numbers) half-is .power)
-
-  -- a claim that passes is below 2^v times the scale, and so is its quotient's part
-  claim-below : (c : ℕ) → c < G .rows * G .columns
-      → (shiftedQuotient (G .width) (valueIn t (quotients G) (rowOf G c) (columnOf G c)) * G .scale < 2 ^ 31) × (claimedAt G t c < 2 ^ 31)
-  unfolding quotients claimedAt
-  claim-below c l =
-      let i = row-within passed l in
-      let j = column-within passed l in
-      let s = shiftedQuotient (G .width) (valueIn t (quotients G) (rowOf G c) (columnOf G c)) in
-      let shifted : s < 2 ^ G .width = ltb-true _ _ (valid-quotient passed _ _ i j .in-range) in
-      omega (arith, mul-le-mul-right (G .scale) shifted, small-remainder passed _ _ i j, passed .fitted .claims, modulus-is)
-
-  pub claims-small : {a b room : ℕ} → Room G a b room → ClaimsSmall q r (G .rows * G .columns) half (G .scale) room
-  unfolding shiftedQuotient quotients remainders
-  claims-small room =
-      record {
-        few = room .claims;
-        small = room .few-claims;
-        long-q = omega (arith, from-long (recordBytes * quotients G .start) t, passed .long, length-by-parts G);
-        long-r = omega (arith, from-long (recordBytes * remainders G .start) t, passed .long, length-by-parts G);
-        half-below = omega (arith, half-of {G = G} (passed .numbers) half-is .small, modulus-is);
-        below = λ c l. rw (quotient-at c) (valid-quotient passed _ _ (row-within passed l) (column-within passed l) .below);
-        product = λ c l. rw (quotient-at c, half-of {G = G} (passed .numbers) half-is .power) (claim-below c l .0);
-        sum = λ c l. rw (claim-at c) (claim-below c l .1);
-      }
+  pub claim-at : (c : ℕ)
+      → liftedClaim (from (recordBytes * quotients G .start) t) (from (recordBytes * remainders G .start) t) half (G .scale) c ≡ claimedAt G t c
+  unfolding claimedAt shiftedQuotient quotients remainders
+  claim-at c =
+      rw (value-at (quotients G) refl c, value-at (remainders G) refl c, half-of {G = G} (passed .numbers) half-is .power)
 
 -- the comparison
 
@@ -369,7 +303,7 @@ module _ {G : Setting} {t : List ℕ} (passed : Passed G t) {x y z : ℕ} (room 
       (rows : Filled (pos 0) x (G .rows * G .inner) (entryAt t) A)
       (columns : Columns (pos 0) y (G .inner) (G .columns) (entryAt (from (recordBytes * (G .rows * G .inner)) t)) B)
       (claims : Filled 0 z (G .rows * G .columns)
-      (claimOf (from (recordBytes * quotients G .start) t) (from (recordBytes * remainders G .start) t) half (G .scale)) Y) where
+      (liftedClaim (from (recordBytes * quotients G .start) t) (from (recordBytes * remainders G .start) t) half (G .scale)) Y) where
     pub long-claims : length (take (G .rows * G .columns) Y) ≡ G .rows * G .columns
     long-claims = length-take-le (G .rows * G .columns) Y (omega (arith, claims .long, room .claims))
 

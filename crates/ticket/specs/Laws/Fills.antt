@@ -9,6 +9,7 @@
 --   digits-same          two numbers by row and column are equal only where these are
 --   place-inside         where an element stands, column by column
 --   columns-none, columns-fewer, columns-more, columns-ended   no element is there yet, fewer are, one more, and the last
+--   columns-next         one more element of a row
 use Prim.Native.Nat.{ℕ, _+_, _-_, _*_, _/_, _%_, _≤_, _<_}
 use native.Mathlib.Decide.{ℕ-discrete}
 use native.Mathlib.Omega.{arith}
@@ -17,7 +18,7 @@ use mathlib.Core.List.{List}
 use lib.Arith.{digits-div, digits-mod, digits-lt}
 use lib.ListN.{length, getD, set, take, drop, length-set, length-drop}
 use lib.Seq.{getD-set-same, getD-set-other, getD-take, getD-drop, length-take-le}
-use Rattle.ticket.specs.Laws.Positions.{Position, position-within}
+use Rattle.ticket.specs.Laws.Positions.{Position, position-of, position-within}
 
 pub record Filled {A : Type 0} (d : A) (size count : ℕ) (f : ℕ → A) (list : List A) : Type 0 where
   pub long : length list ≡ size
@@ -101,3 +102,10 @@ module _ {A : Type 0} (d : A) (size : ℕ) (f : ℕ → A) where
         → Columns d size height width f list
     columns-ended le columns =
         record { long = columns .long; each = λ k j l m. columns .each k j l m (omega (arith, digits-lt l m)) }
+
+pub columns-next : {A : Type 0} {d : A} {size : ℕ} {f : ℕ → A} {height width row column at : ℕ} {value : A} {list : List A} → height * width ≤ size
+    → row < height → column < width → at ≡ column * height + row → ColumnsTo d size height width (row * width + column) f list
+    → value ≡ f (row * width + column) → ColumnsTo d size height width (row * width + (column + 1)) f (set list at value)
+columns-next {d = d} {size = size} {f = f} {height = height} {width = width} {row = row} {column = column} few l m at-is columns e =
+    let next : row * width + (column + 1) ≡ row * width + column + 1 = omega arith in
+    rw (next, at-is) (columns-more d size f height width few (digits-lt l m) (position-of row m) columns e)

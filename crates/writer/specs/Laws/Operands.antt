@@ -11,23 +11,20 @@
 --   TurnReady x h w i l   the first i rows of x, of h rows and w columns, are in l, column by column
 --   narrow-part      a part of such a list is such a list
 --   narrow-stored    an entry, as it is read and stored
---   columns-next     one more element of a row, in a list column by column
 --   length-A-wrong, length-B-wrong, beyond-in-A, beyond-in-B   the tests 13 and 14 in order
 --   size-small       the absolute value of a 32-bit number
 --   magnitude-negative, magnitude-fits, magnitude-positive   that value of a number below zero, and of another
 --   residue-negative, residue-fits, residue-positive   the least residue of an entry below zero, and of another
 use Prim.Native.Nat.{ℕ, suc, _+_, _-_, _*_, _≤_, _<_, _^_}
 use native.Mathlib.Decide.{ℕ-discrete}
-use native.Mathlib.Nat.{mul-le-mul-left}
 use native.Mathlib.Omega.{arith}
 use mathlib.Core.Path.{_≡_, refl, sym, ap, subst, subst⁻¹, _∙_}
 use mathlib.Core.Bool.{Bool, true, false, true≢false}
 use mathlib.Core.List.{List, _++_}
 use borrow.Author.Tests.{le-leb, lt-leb, leb-true, ltb-true, eq-eqb, ne-eqb}
-use lib.Arith.{digits-lt}
 use lib.Dec.{leb}
 use lib.IntN.{ℤ, pos, negsuc, natAbs, _+ℤ_, _-ℤ_}
-use lib.ListN.{length, getD, set, take, drop, length-append, List·getD-append}
+use lib.ListN.{length, getD, take, drop, length-append, List·getD-append}
 use lib.Seq.{getD-append-add}
 use lib.Signed.{mag, ltZ}
 use mir.Syntax.{w16, w32, w64}
@@ -42,7 +39,7 @@ use Rattle.ticket.specs.declared.setting.Setting.{Setting}
 use Rattle.ticket.specs.declared.Answer.{Answer}
 use Rattle.ticket.specs.Rules.{mostRows, mostInner, unless, refusal, firstRefusal, after}
 use Rattle.ticket.specs.Laws.All.{all, all-at}
-use Rattle.ticket.specs.Laws.Fills.{ColumnsTo, columns-more, part-of, part-long}
+use Rattle.ticket.specs.Laws.Fills.{ColumnsTo, part-of, part-long}
 use Rattle.ticket.specs.Laws.Scans.{refusal-none, refusal-is, refusal-cong, refusal-split, after-passed, after-refused}
 use Rattle.writer.specs.Rules.{operandNumber, operandsReading}
 
@@ -130,16 +127,6 @@ module _ (G : Setting) (A B : List ℤ) where
       beyond-in-B e z f = f ∙ sym (in-order ∙ after-passed _ _ (sym (ap (λ b. b .number) e) ∙ z))
 
 -- a row at a time, column by column
-pub columns-next : {A : Type 0} {d : A} {size : ℕ} {f : ℕ → A} {height width row column at : ℕ} {value : A} {list : List A} → height * width ≤ size
-    → row < height → column < width → at ≡ column * height + row → ColumnsTo d size height width (row * width + column) f list
-    → value ≡ f (row * width + column) → ColumnsTo d size height width (row * width + (column + 1)) f (set list at value)
-columns-next {d = d} {size = size} {f = f} {height = height} {width = width} {row = row} {column = column} few l m at-is columns e =
-    let next : row * width + (column + 1) ≡ row * width + column + 1 = omega arith in
-    let wide : 1 ≤ width = omega arith in
-    rw (next, at-is)
-    (columns-more d size f height width few (digits-lt l m)
-    (record { place = refl; inside = m; row-small = omega (arith, mul-le-mul-left row wide) }) columns e)
-
 -- entries within 15 bits
 
 pub record Narrow (x : List ℤ) : Type 0 where

@@ -3,7 +3,7 @@ use native.Mathlib.Omega.{arith}
 use mathlib.Core.Path.{refl}
 use lib.ListN.{length}
 use Rattle.ticket.specs.Laws.Fills.{Filled, filled-none, filled-more}
-use Rattle.challenge.specs.Laws.Decodes.{liftedClaim}
+use Rattle.ticket.specs.Laws.Decodes.{liftedClaim}
 use Rattle.challenge.proofs.decode.lifted_claims.Statement.{statement}
 use Rattle.challenge.proofs.decode.lifted_claims.Tie as tie
 

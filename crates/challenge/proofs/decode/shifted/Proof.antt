@@ -1,6 +1,6 @@
 use native.Mathlib.Omega.{arith}
 use Rattle.residue.specs.Laws.Modulus.{modulus-is}
-use Rattle.challenge.specs.Laws.Decodes.{carried}
+use Rattle.ticket.specs.Laws.Decodes.{carried}
 use Rattle.challenge.proofs.decode.shifted.Statement.{statement}
 use Rattle.challenge.proofs.decode.shifted.Tie as tie
 

@@ -3,7 +3,7 @@ use native.Mathlib.Omega.{arith}
 use mathlib.Core.Path.{refl}
 use lib.ListN.{length}
 use Rattle.ticket.specs.Laws.Fills.{Filled, filled-none, filled-more}
-use Rattle.challenge.specs.Laws.Decodes.{shiftedEntry}
+use Rattle.ticket.specs.Laws.Decodes.{shiftedEntry}
 use Rattle.challenge.proofs.decode.shifted_entries.Statement.{statement}
 use Rattle.challenge.proofs.decode.shifted_entries.Tie as tie
 

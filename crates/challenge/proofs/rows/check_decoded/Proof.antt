@@ -2,7 +2,8 @@ use native.Mathlib.Omega.{arith}
 use borrow.Author.Needs.{needs}
 use Rattle.residue.specs.Laws.Modulus.{modulus-is}
 use Rattle.ticket.specs.Laws.Lifts.{lift-by-half, lift-small}
-use Rattle.challenge.specs.Laws.Values.{entries-ready, claims-ready, decoded-by}
+use Rattle.ticket.specs.Laws.Decodes.{claims-ready}
+use Rattle.challenge.specs.Laws.Values.{entries-ready, decoded-by}
 use Rattle.challenge.proofs.rows.check_decoded.Statement.{statement}
 use Rattle.challenge.proofs.rows.check_decoded.Tie as tie
 

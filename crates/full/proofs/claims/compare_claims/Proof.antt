@@ -2,9 +2,10 @@ use native.Mathlib.Omega.{arith}
 use mathlib.Core.Path.{refl, sym, _∙_}
 use Rattle.residue.specs.Laws.Modulus.{modulus-is}
 use Rattle.ticket.specs.Rules.{quotients, remainders}
+use Rattle.ticket.specs.Laws.Decodes.{claims-ready}
 use Rattle.ticket.specs.Laws.Lifts.{lift-by-half, lift-small}
 use Rattle.ticket.specs.Laws.Parts.{length-by-parts}
-use Rattle.full.specs.Laws.Claims.{claims-small, narrow-A, narrow-B, long-claims, compare-ready, compare-verdict}
+use Rattle.full.specs.Laws.Claims.{narrow-A, narrow-B, long-claims, compare-ready, compare-verdict}
 use borrow.Author.Needs.{needs}
 use Rattle.full.proofs.claims.compare_claims.Statement.{statement}
 use Rattle.full.proofs.claims.compare_claims.Tie as tie
@@ -88,8 +89,7 @@ part-lift-end-2 : tie.Need-part-lift-end-2
 part-lift-end-2 c = search needs
 
 lift-requires : tie.Need-lift-requires
-unfolding quotients remainders
-lift-requires c κs = claims-small (c .before .before .before .before .before .before .before .before .before .before .before .before .before .before .before .before .before .before .pre .0) (c .before .before .before .before .before .before .before .before .before .before .power-of-two .ensures) (c .before .before .before .before .before .before .before .before .before .before .before .before .before .before .before .before .before .before .pre .1)
+lift-requires c κs = claims-ready (c .before .before .before .before .before .before .before .before .before .before .before .before .before .before .before .before .before .before .pre .0) (c .before .before .before .before .before .before .before .before .before .before .before .before .before .before .before .before .before .before .pre .0 .long ∙ length-by-parts (c .before .before .before .before .before .before .before .before .before .before .before .before .before .before .before .before .before .before .args .setting)) (c .before .before .before .before .before .before .before .before .before .before .power-of-two .ensures) (c .before .before .before .before .before .before .before .before .before .before .before .before .before .before .before .before .before .before .pre .1 .claims)
 
 slice-reshare-prefix-compare : tie.Need-slice-reshare-prefix-compare
 slice-reshare-prefix-compare c = omega (arith, c .before .before .before .before .before .before .before .before .before .before .before .before .before .before .before .before .before .before .before .before .before .before .before .pre .1 .claims, c .before .before .before .before .lift .ensures .long)

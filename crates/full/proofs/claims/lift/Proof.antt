@@ -3,12 +3,12 @@ use native.Mathlib.Omega.{arith}
 use mathlib.Core.Path.{refl}
 use lib.ListN.{length}
 use Rattle.ticket.specs.Laws.Fills.{Filled, filled-none, filled-more}
-use Rattle.full.specs.Laws.Claims.{claimOf}
+use Rattle.ticket.specs.Laws.Decodes.{liftedClaim}
 use Rattle.full.proofs.claims.lift.Statement.{statement}
 use Rattle.full.proofs.claims.lift.Tie as tie
 
 abbrev Inv-loop : tie.InvT-loop
-Inv-loop quotients remainders count half scale list₀ c₀ list c = (c ≤ count) × Filled 0 (length list₀) c (claimOf quotients remainders half scale) list
+Inv-loop quotients remainders count half scale list₀ c₀ list c = (c ≤ count) × Filled 0 (length list₀) c (liftedClaim quotients remainders half scale) list
 
 abbrev μ-loop : tie.MeasureT-loop
 μ-loop quotients remainders count half scale list₀ c₀ list c = count - c
@@ -17,28 +17,28 @@ loop-holds : tie.Need-loop-holds Inv-loop μ-loop
 loop-holds c = (omega arith, filled-none _ _ _ refl)
 
 value-requires : tie.Need-value-requires Inv-loop μ-loop
-value-requires c κs = omega (arith, c .before .before .before .before .before .pre .long-q)
+value-requires c κs = omega (arith, c .before .before .before .before .before .pre .long-quotients)
 
 shifted-requires : tie.Need-shifted-requires Inv-loop μ-loop
-shifted-requires c κs = (rw (c .value .ensures) (c .before .before .before .before .before .before .pre .below _ (c .before .loop-test .taken)), c .before .before .before .before .before .before .pre .half-below)
+shifted-requires c κs = rw (c .value .ensures) (c .before .before .before .before .before .before .pre .each _ (c .before .loop-test .taken))
 
 mul-list : tie.Need-mul-list Inv-loop μ-loop
 mul-list c = rw (c .shifted .ensures, c .before .value .ensures) (omega (arith, c .before .before .before .before .before .before .before .pre .product _ (c .before .before .loop-test .taken)))
 
 value-requires-2 : tie.Need-value-requires-2 Inv-loop μ-loop
-value-requires-2 c κs = omega (arith, c .before .before .before .before .before .before .before .pre .long-r)
+value-requires-2 c κs = omega (arith, c .before .before .before .before .before .before .before .pre .long-remainders)
 
 add-list : tie.Need-add-list Inv-loop μ-loop
-add-list c = rw (c .before .shifted .ensures, c .before .before .value .ensures, c .value2 .ensures) (omega (arith, c .before .before .before .before .before .before .before .before .pre .sum _ (c .before .before .before .loop-test .taken)))
+add-list c = rw (c .before .shifted .ensures, c .before .before .value .ensures, c .value2 .ensures) (omega (arith, c .before .before .before .before .before .before .before .before .pre .claim _ (c .before .before .before .loop-test .taken)))
 
 mul-list-2 : tie.Need-mul-list-2 Inv-loop μ-loop
-mul-list-2 c = omega (arith, c .before .before .before .before .before .before .before .before .pre .few, c .before .before .before .before .before .before .before .before .pre .small)
+mul-list-2 c = omega arith
 
 slice-write-list : tie.Need-slice-write-list Inv-loop μ-loop
 slice-write-list c = omega (arith, c .before .before .before .before .before .before .before .before .pre .few, c .before .before .before .before .loop .inv .1 .long)
 
 add-c : tie.Need-add-c Inv-loop μ-loop
-add-c c = omega (arith, c .before .before .before .before .before .before .before .before .pre .few, c .before .before .before .before .before .before .before .before .pre .small)
+add-c c = omega arith
 
 loop-less : tie.Need-loop-less Inv-loop μ-loop
 loop-less c = omega arith

@@ -5,7 +5,7 @@ use mathlib.Core.Path.{_≡_, ap, _∙_}
 use lib.IntN.{pos}
 use lib.ListN.{length}
 use Rattle.residue.specs.Rules.{modulus, signedEntry}
-use Rattle.ticket.specs.Laws.Fills.{ColumnsTo, columns-fewer, columns-more, place-inside}
+use Rattle.ticket.specs.Laws.Fills.{ColumnsTo, columns-fewer, columns-next, place-inside}
 use Rattle.ticket.specs.Laws.Positions.{position-of, row-inside}
 use Rattle.full.specs.Laws.Operands.{entryAt, entry-stored}
 use Rattle.full.proofs.operands.turn_row.Statement.{statement}
@@ -58,7 +58,7 @@ loop-less c = omega arith
 
 loop-again : tie.Need-loop-again Inv-loop μ-loop
 unfolding entryAt
-loop-again c = (omega arith, omega arith, rw (c .before .before .before .loop .inv .1) (columns-fewer _ _ _ _ _ (columns-more _ _ _ _ _ (c .before .before .before .before .before .pre .1 .few) (within (c .before .before)) (position-of _ (c .before .before .loop-test .taken)) (c .before .before .before .loop .inv .2) (entry-stored (entry-requires (c .before) (c .entry .lifetimes)) (c .entry .ensures) ∙ ap (signedEntry modulus) (c .before .value .ensures))) (omega arith)))
+loop-again c = (omega arith, omega arith, columns-next (c .before .before .before .before .before .pre .1 .few) (c .before .before .before .before .before .pre .0) (c .before .before .loop-test .taken) (c .before .before .before .loop .inv .1) (c .before .before .before .loop .inv .2) (entry-stored (entry-requires (c .before) (c .entry .lifetimes)) (c .entry .ensures) ∙ ap (signedEntry modulus) (c .before .value .ensures)))
 
 same-length : tie.Need-same-length Inv-loop μ-loop
 same-length c = c .before .loop .inv .2 .long

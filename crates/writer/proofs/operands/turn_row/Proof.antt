@@ -5,9 +5,9 @@ use lib.Arith.{digits-lt}
 use lib.IntN.{pos}
 use lib.ListN.{length, getD}
 use Rattle.residue.specs.Laws.Signed.{narrowed-fits}
-use Rattle.ticket.specs.Laws.Fills.{ColumnsTo}
+use Rattle.ticket.specs.Laws.Fills.{ColumnsTo, columns-next}
 use Rattle.ticket.specs.Laws.Positions.{row-inside}
-use Rattle.writer.specs.Laws.Operands.{entryIn, narrow-stored, columns-next}
+use Rattle.writer.specs.Laws.Operands.{entryIn, narrow-stored}
 use Rattle.writer.proofs.operands.turn_row.Statement.{statement}
 use Rattle.writer.proofs.operands.turn_row.Tie as tie
 
