@@ -8,7 +8,7 @@
 --   Limits        what a setting within its limits gives (T1)
 --   Forms         the form that the code gives the tests of a part
 --   All           whether a test holds at every place
---   Passing       the tests of a part, each over all its records
+--   Passing       the tests of a record, made without a branch, and of all records of a part
 --   Parts         which record is in which part; the parts in order are the ticket
 --   Passes        what a ticket that passes gives
 --   Layout        record number, part, row and column (T4)

@@ -5,28 +5,23 @@
 --   entries-ready        the entries of A can be decoded
 --   decoded-by           both they and the claims are then decoded
 --   decoded-small        the decoded entries are below 2^16
-use Prim.Native.Nat.{ℕ, _+_, _-_, _*_, _/_, _%_, _^_, _≤_, _<_}
-use native.Mathlib.Nat.{mod-lt, div-add-mod', div-lt-iff-lt-mul, mul-le-mul-right}
+use Prim.Native.Nat.{ℕ, _+_, _-_, _*_, _%_, _^_, _≤_, _<_}
 use native.Mathlib.Omega.{arith}
 use mathlib.Core.Path.{_≡_, sym, ap, _∙_}
 use mathlib.Core.List.{List}
-use borrow.Author.Tests.{ltb-true}
 use lib.Arith.{digits-lt}
-use lib.Dec.{ltb}
 use lib.ListN.{length, getD}
 use Rattle.residue.specs.Rules.{modulus, powerOfTwo}
-use Rattle.residue.specs.Laws.Modulus.{modulus-is}
 use Rattle.ticket.specs.declared.setting.Setting.{Setting}
-use Rattle.ticket.specs.Rules.{Part, partA, quotients, remainders, recordBytes, bytesOf, shiftedQuotient, valueAt, valueIn}
-use Rattle.ticket.specs.Laws.Differences.{small-remainder}
+use Rattle.ticket.specs.Rules.{partA, quotients, remainders, recordBytes, shiftedQuotient, valueAt, valueIn}
 use Rattle.ticket.specs.Laws.Decodes.{shiftedEntry, liftedClaim, Shiftable, EntriesReady, by-row, Tested, below-limit, able, value-from}
 use Rattle.ticket.specs.Laws.Fills.{Filled}
-use Rattle.ticket.specs.Laws.Forms.{from, rest, from-long}
+use Rattle.ticket.specs.Laws.Forms.{from}
 use Rattle.ticket.specs.Laws.Layout.{value-of-part}
 use Rattle.ticket.specs.Laws.Lifts.{lift-by-half}
-use Rattle.ticket.specs.Laws.Limits.{Half, half-of}
-use Rattle.ticket.specs.Laws.Parts.{tests-A, tests-quotients, addedLength}
-use Rattle.ticket.specs.Laws.Passes.{Passed, Valid, valid-A, valid-quotient}
+use Rattle.ticket.specs.Laws.Limits.{half-of}
+use Rattle.ticket.specs.Laws.Parts.{tests-A, addedLength}
+use Rattle.ticket.specs.Laws.Passes.{Passed, Valid, valid-A}
 use Rattle.challenge.specs.Laws.Rows.{Decoded}
 
 value-A : (G : Setting) (t : List ℕ) (i k : ℕ) → valueIn t (partA G) i k ≡ valueAt t (i * G .inner + k)

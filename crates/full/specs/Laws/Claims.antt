@@ -8,6 +8,7 @@
 --   Room G a b c         there is room for the operands and the claims
 --   claim-at             what a claim of a ticket that passes is decoded to is the same
 --   comparedAnswer s y c n   the answer of a sum s and its claim y, number c, after n products
+--   compared-same, compared-other   where they are equal, and where they are not
 --   sumAt A B m n l c    sum c, lifted by l, modulo 2^32: from the rows A and the columns B, m numbers each, n columns
 --   agrees A B Y m n l c   sum c is what the claims Y put for it
 --   compareAnswer A B Y m n l   the answer of all of them
@@ -23,14 +24,14 @@
 --   compare-verdict      the answer of its comparison is the verdict
 --   check-refused, check-passed, check-compared   the whole check, by the answer of reading
 use Prim.Native.Nat.{ℕ, _+_, _-_, _*_, _/_, _%_, _≤_, _<_, _^_}
-use native.Mathlib.Nat.{div-add-mod', mod-lt, mod-eq-of-lt, mod-eq-sub-mod, div-lt-iff-lt-mul, mul-le-mul-right, mul-le-mul, le-of-lt}
+use native.Mathlib.Nat.{div-add-mod', mod-lt, div-lt-iff-lt-mul, mul-le-mul, le-of-lt}
 use native.Mathlib.Decide.{ℕ-discrete}
 use native.Mathlib.Omega.{arith}
 use mathlib.Core.Path.{_≡_, refl, sym, ap, _∙_}
 use mathlib.Core.Bool.{Bool, true, false}
 use mathlib.Core.Logic.{⊎-elim}
 use mathlib.Core.List.{List}
-use borrow.Author.Tests.{eq-eqb, ne-eqb, ltb-true}
+use borrow.Author.Tests.{eq-eqb, ne-eqb}
 use lib.Arith.{digits-lt}
 use lib.Dec.{eqb}
 use lib.IntN.{ℤ, pos, natAbs, _+ℤ_, _-ℤ_, _*ℤ_}
@@ -38,22 +39,20 @@ use lib.ListN.{length, getD, take, length-drop}
 use lib.Seq.{getD-take, length-take-le}
 use Rattle.residue.specs.Rules.{modulus, leastResidue, signedEntry, powerOfTwo}
 use Rattle.residue.specs.Laws.Integers.{positive, equal-of-parts, parts-sum, parts-difference, parts-product}
-use Rattle.residue.specs.Laws.Modulus.{modulus-is}
 use Rattle.exact.specs.Rules.{dotProduct}
 use Rattle.exact.specs.Laws.Products.{dot-is}
 use Rattle.ticket.specs.declared.setting.Setting.{Setting}
 use Rattle.ticket.specs.declared.Answer.{Answer}
 use Rattle.ticket.specs.Rules.{unless, first, refusal, reading, mostInner, recordBytes, Part, shiftedQuotient, partA, partB, quotients, remainders, bytesOf, valueAt, valueIn, entryA, entryB, quotient, remainder, claim, exactSum}
-use Rattle.ticket.specs.Laws.Differences.{exactSum-is, size-entryA, size-entryB, size-exactSum, small-remainder}
+use Rattle.ticket.specs.Laws.Differences.{exactSum-is, size-entryA, size-entryB, size-exactSum}
 use Rattle.ticket.specs.Laws.First.{first-none, first-is, first-cong, true-or-false}
 use Rattle.ticket.specs.Laws.Decodes.{liftedClaim, value-from}
 use Rattle.ticket.specs.Laws.Fills.{Filled, Columns, part-of, part-long, lineOf}
-use Rattle.ticket.specs.Laws.Forms.{from, rest, from-long}
-use Rattle.ticket.specs.Laws.Layout.{value-of-part}
+use Rattle.ticket.specs.Laws.Forms.{from, rest}
 use Rattle.ticket.specs.Laws.Lifts.{lift, Lifted, lift-by-half, lifted-same, lifted-sum}
 use Rattle.ticket.specs.Laws.Limits.{half-of}
 use Rattle.ticket.specs.Laws.Parts.{length-by-parts}
-use Rattle.ticket.specs.Laws.Passes.{Passed, passed-of, valid-A, valid-B, valid-quotient}
+use Rattle.ticket.specs.Laws.Passes.{Passed, passed-of, valid-A, valid-B}
 use Rattle.ticket.specs.Laws.Positions.{Position, row-of, column-of, position-within, row-inside}
 use Rattle.ticket.specs.Laws.Scans.{after-passed, after-refused}
 use Rattle.full.specs.Rules.{holds, untrue, fullVerdict, fullCheck}

@@ -5,7 +5,6 @@
 --   all-next     the same with one place more
 --   all-at       where the test holds everywhere, it holds at each place
 --   all-cong     equal tests
---   all-both     two tests at once
 --   all-split    the first m places, then the n after them
 use Prim.Native.Nat.{ℕ, zero, suc, _+_, _<_}
 use native.Mathlib.Decide.{ℕ-discrete}
@@ -13,7 +12,7 @@ use native.Mathlib.Nat.{add-zero, add-suc}
 use native.Mathlib.Numerals.{add-one}
 use native.Mathlib.Omega.{arith}
 use mathlib.Core.Path.{_≡_, refl, sym, ap, _∙_}
-use mathlib.Core.Bool.{Bool, true, false, _&&_, and-assoc, and-true, and-false}
+use mathlib.Core.Bool.{Bool, true, _&&_, and-assoc, and-true}
 use Rattle.ticket.specs.Laws.Limits.{both}
 
 unfoldable pub all : ℕ → (ℕ → Bool) → Bool
@@ -41,16 +40,6 @@ pub all-cong : (n : ℕ) (f g : ℕ → Bool) → ((k : ℕ) → k < n → f k �
 unfolding all
 all-cong zero f g h = refl
 all-cong (suc n) f g h = rw (all-cong n f g (λ k l. h k (omega arith)), h n (omega arith))
-
-exchange : (a b c d : Bool) → ((a && b) && (c && d)) ≡ ((a && c) && (b && d))
-exchange false b c d = refl
-exchange true true c d = refl
-exchange true false c d = sym (and-false c)
-
-pub all-both : (n : ℕ) (f g : ℕ → Bool) → (all n f && all n g) ≡ all n (λ k. f k && g k)
-unfolding all
-all-both zero f g = refl
-all-both (suc n) f g = exchange (all n f) (f n) (all n g) (g n) ∙ rw (all-both n f g)
 
 pub all-split : (m n : ℕ) (f : ℕ → Bool) → all (m + n) f ≡ (all m f && all n (λ k. f (m + k)))
 unfolding all

@@ -8,20 +8,20 @@
 --   record-passing        a record's tests as the code makes them
 --   rows-passing          the records up to the end of a row pass
 --   passed-part           all records pass: the answer of the part
-use Prim.Native.Nat.{ℕ, _+_, _-_, _*_, _/_, _%_, _^_, _≤_, _<_}
+use Prim.Native.Nat.{ℕ, _+_, _-_, _*_, _/_, _%_, _^_, _<_}
 use native.Mathlib.Decide.{decLe}
 use native.Mathlib.Nat.{mod-eq-of-lt}
 use native.Mathlib.Omega.{arith}
 use mathlib.Core.Path.{_≡_, sym, ap, _∙_}
-use mathlib.Core.Bool.{Bool, true, _&&_, _||_, and-false}
+use mathlib.Core.Bool.{Bool, true, _&&_, and-false}
 use mathlib.Core.List.{List}
 use borrow.Author.Tests.{le-leb, lt-leb, le-ltb, lt-ltb}
 use lib.Arith.{digits-div, digits-mod}
 use lib.Dec.{leb, ltb}
 use Rattle.residue.specs.Rules.{modulus}
 use Rattle.residue.specs.Laws.Modulus.{modulus-is}
-use Rattle.ticket.specs.Rules.{within, formed, valueAt, numberOf, refusal}
-use Rattle.ticket.specs.Laws.All.{all, all-at, all-cong, all-both, all-split}
+use Rattle.ticket.specs.Rules.{formed, valueAt, numberOf, refusal}
+use Rattle.ticket.specs.Laws.All.{all, all-at, all-cong, all-split}
 use Rattle.ticket.specs.Laws.Limits.{both}
 use Rattle.ticket.specs.Laws.Forms.{testedAt, tested, partAnswer, Ranged}
 use Rattle.ticket.specs.Laws.Scans.{refusal-none}
