@@ -1,0 +1,68 @@
+-- Lists that a loop fills, number by number, and parts of lists.
+--
+--   Filled d b n f l     l is the list b with its first n elements f 0 to f (n - 1); d stands past the end
+--   filled-none          no element is filled yet
+--   filled-more          one more is
+--   filled-cong          the same list, by another function with the same values
+--   filled-same          two lists filled alike are equal
+--   part-of, part-long   the elements of a part of a list, and how many they are
+--   lineAt x n i         line i of lines of n elements each
+--   digits-same          two numbers by row and column are equal only where these are
+use Prim.Native.Nat.{ℕ, _+_, _-_, _*_, _/_, _%_, _≤_, _<_}
+use native.Mathlib.Decide.{ℕ-discrete, decLt}
+use native.Mathlib.Omega.{arith}
+use mathlib.Core.Path.{_≡_, refl, sym, ap, _∙_}
+use mathlib.Core.List.{List}
+use lib.Arith.{digits-div, digits-mod}
+use lib.ListN.{length, getD, set, take, drop, length-set, length-drop}
+use lib.Seq.{getD-set-same, getD-set-other, getD-take, getD-drop, length-take-le, ext-getD}
+
+pub record Filled {A : Type 0} (d : A) (before : List A) (count : ℕ) (f : ℕ → A) (list : List A) : Type 0 where
+  pub long : length list ≡ length before
+  pub each : (k : ℕ) → k < count → getD list k d ≡ f k
+  pub rest : (k : ℕ) → count ≤ k → getD list k d ≡ getD before k d
+
+module _ {A : Type 0} {d : A} {before : List A} {f : ℕ → A} where
+  pub filled-none : Filled d before 0 f before
+  filled-none = record { long = refl; each = λ k l. absurd (omega arith); rest = λ k l. refl }
+
+  pub filled-more : {k : ℕ} {value : A} {list : List A} → k < length before → Filled d before k f list → value ≡ f k
+      → Filled d before (k + 1) f (set list k value)
+  filled-more {k} {value} {list} inside filled is =
+      record {
+        long = length-set list k value ∙ filled .long;
+        each = λ i l. elim (ℕ-discrete i k) [
+          | yes same ↦
+              ap (λ n. getD (set list k value) n d) same ∙ getD-set-same list k value d (omega (arith, filled .long)) ∙ is ∙ ap f (sym same)
+          | no other ↦ getD-set-other list k i value d other ∙ filled .each i (omega arith)
+        ];
+        rest = λ i l. getD-set-other list k i value d (λ same. omega arith) ∙ filled .rest i (omega arith);
+      }
+
+  module _ {count : ℕ} {list : List A} (filled : Filled d before count f list) where
+    pub filled-cong : {g : ℕ → A} → ((k : ℕ) → k < count → f k ≡ g k) → Filled d before count g list
+    filled-cong same = record { long = filled .long; each = λ k l. filled .each k l ∙ same k l; rest = filled .rest }
+
+    pub filled-same : {other : List A} → Filled d before count f other → list ≡ other
+    filled-same {other} again =
+        ext-getD d list other (filled .long ∙ sym (again .long))
+        (λ k m. elim (decLt k count) [
+          | yes l ↦ filled .each k l ∙ sym (again .each k l)
+          | no l ↦ filled .rest k (omega arith) ∙ sym (again .rest k (omega arith))
+        ])
+
+pub part-of : {A : Type 0} (x : List A) (start n i : ℕ) (d : A) → i < n
+    → getD (take (start + n - start) (drop start x)) i d ≡ getD x (start + i) d
+part-of x start n i d l = getD-take (start + n - start) (drop start x) i d (omega arith) ∙ getD-drop start x i d
+
+pub part-long : {A : Type 0} (x : List A) (start n : ℕ) → start + n ≤ length x → length (take (start + n - start) (drop start x)) ≡ n
+part-long x start n l = length-take-le (start + n - start) (drop start x) (omega (arith, length-drop start x)) ∙ omega arith
+
+abbrev pub lineAt : {A : Type 0} → List A → ℕ → ℕ → List A
+lineAt x n i = take (i * n + n - i * n) (drop (i * n) x)
+
+pub digits-same : {a b c d : ℕ} (n : ℕ) → b < n → d < n → a * n + b ≡ c * n + d → (a ≡ c) × (b ≡ d)
+digits-same {a} {b} {c} {d} n l m e = (
+  sym (digits-div a l) ∙ ap (λ k. k / n) e ∙ digits-div c m,
+  sym (digits-mod a l) ∙ ap (λ k. k % n) e ∙ digits-mod c m,
+)
