@@ -1,6 +1,7 @@
 // Residue arithmetic modulo p = 2^31 - 1. Every call takes every value of its parameters, a number of p or more is reduced
 // first, and each result is fixed by its contract. The rules that the contracts cite are in specs/Rules.antt.
 ghost use mathlib.Core.Path.{_≡_};
+ghost use lib.Dec.{ltb};
 ghost use lib.IntN.{pos, _+ℤ_, _-ℤ_, _*ℤ_};
 ghost use Rattle.residue.specs.Rules.{modulus, leastResidue, signedEntry};
 
@@ -36,6 +37,20 @@ impl Residue {
         ensures { λ r. ⌜ r .0 ≡ leastResidue modulus (pos 1) ⌝ }
     {
         Residue::ONE
+    }
+
+    // p, by its name in the rules: what is proved above of a call of this says nothing of its digits.
+    pub fn modulus() -> u32
+        ensures { λ r. ⌜ r ≡ modulus ⌝ }
+    {
+        Residue::MODULUS
+    }
+
+    // Whether this is a least residue, below p.
+    pub fn is_least(self) -> bool
+        ensures { λ r. ⌜ r ≡ ltb (self .0) modulus ⌝ }
+    {
+        self.0 < Residue::MODULUS
     }
 
     // The least residue of an unsigned number.

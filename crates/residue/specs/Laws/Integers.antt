@@ -2,6 +2,7 @@
 -- read ℤ; of the parts it does.
 --
 --   positive z, negative z   the parts: n and 0 of the number n, 0 and n of -n
+--   parts-within             both are at most c where the integer is at most c in size
 --   equal-of-parts           integers whose parts differ alike are equal
 --   parts-sum, parts-product, parts-negation, parts-difference   the parts of a sum, a product, a negation, a difference
 --   difference-of-naturals   the parts of the kit's difference of two natural numbers
@@ -10,7 +11,7 @@ use native.Mathlib.Omega.{arith}
 use mathlib.Core.Path.{_≡_, refl, ap}
 use mathlib.Core.Bool.{Bool, true, false, not, cond}
 use lib.Dec.{T, ltb, ltb→lt, nltb→le}
-use lib.IntN.{ℤ, pos, negsuc, subℕ, negℤ, _+ℤ_, _-ℤ_, _*ℤ_}
+use lib.IntN.{ℤ, pos, negsuc, subℕ, negℤ, natAbs, _+ℤ_, _-ℤ_, _*ℤ_}
 
 abbrev pub positive : ℤ → ℕ
 positive (pos n) = n
@@ -19,6 +20,10 @@ positive (negsuc n) = 0
 abbrev pub negative : ℤ → ℕ
 negative (pos n) = 0
 negative (negsuc n) = suc n
+
+pub parts-within : (z : ℤ) (c : ℕ) → natAbs z ≤ c → (positive z ≤ c) × (negative z ≤ c)
+parts-within (pos n) c l = (l, omega arith)
+parts-within (negsuc n) c l = (omega arith, l)
 
 pub equal-of-parts : (x y : ℤ) → positive x + negative y ≡ positive y + negative x → x ≡ y
 equal-of-parts (pos a) (pos b) e = ap pos (omega arith)

@@ -1,12 +1,13 @@
--- The modulus of the delivery is prime (R1), and what else the crates above may know of it.
+-- The modulus of the delivery is prime (R1), and what else the crates above may know of it: that it has 31 bits.
 --
 --   prime-by-trial     a number up to 2^31 that passes the trial division up to its square root is prime
 --   modulus-prime      the modulus is prime
 --   modulus-positive   it is above 0
---   modulus-odd        it is odd
---   modulus-is         it is 2^31 - 1
+--   modulus-above      it is above 2^30
+--   modulus-below      it is below 2^31
+--   modulus-is         it is 2^31 - 1: for the proofs of this crate alone
 --   partner-moduli     the same argument serves the two other moduli that partners compute with
-use Prim.Native.Nat.{ℕ, _+_, _-_, _*_, _^_, _%_, _<_}
+use Prim.Native.Nat.{ℕ, _+_, _-_, _*_, _^_, _<_}
 use mathlib.Core.Path.{_≡_, refl}
 use lib.Dec.{T, ltb, lit<}
 use Rattle.residue.specs.Rules.{modulus, Prime}
@@ -26,9 +27,13 @@ modulus-prime = prime-by-trial modulus tt tt tt
 pub modulus-positive : 0 < modulus
 modulus-positive = prime-positive modulus-prime
 
-pub modulus-odd : modulus % 2 ≡ 1
+pub modulus-above : 2 ^ 30 < modulus
 unfolding modulus
-modulus-odd = refl
+modulus-above = lit< tt
+
+pub modulus-below : modulus < 2 ^ 31
+unfolding modulus
+modulus-below = lit< tt
 
 pub modulus-is : modulus ≡ 2 ^ 31 - 1
 unfolding modulus
