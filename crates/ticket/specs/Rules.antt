@@ -1,50 +1,66 @@
 -- The setting, the ticket and the reading and range checks (tests 1 to 9): the rules. They are all that a reader has to believe
--- beside those of the residue crate and the integer sum; nothing is proved here. G is a setting, t the bytes of a ticket.
+-- beside those of the residue and algebra crates; nothing is proved here. G is a setting, t the bytes of a ticket, w a part's number.
 --
 --   first n f            the first place below n at which the test f fails, n where there is none
 --   unless c a b         b where c holds, else a
+--   answer c k i n       the answer of these four numbers: number, place, row, products
 --   refusal c k          the answer of number c at place k
+--   scan n f a b         a k, for the first place k below n at which the test f fails; b where there is none
+--   after x y            the answer x, where it refuses, else y
+--   Test, test b c       a test: whether it holds, and the number of the answer where it does not
+--   firstFailed l        the number of the first test of l that fails, 0 where all hold
 --   within l h n         n is from l to h
 --   mostRows, mostInner, mostColumns, mostVectors   the largest sizes
---   sizesWithin G, numbersWithin G, fits G   the limits and the fit: tests 1, 2 and 3
+--   reach G              the largest size of an exact sum
+--   halfRange G          half of the quotients' range
+--   lift G               that times the scale: with it added, neither a sum nor what a claim puts for it is negative
+--   sizesWithin G, numbersWithin G, fits G   the limits and the fit
+--   settingTests G       tests 1, 2 and 3, in order
 --   settingNumber G      the first of them that fails, 0 where none does
+--   sumProducts G        how many products all exact sums take
+--   isEntry T x          the value x stands for a number from -T to T
+--   shiftedQuotient v x  the shifted quotient of the value x
+--   isQuotient v x       it is below 2^v
 --   Part                 a part of the ticket: the records of one matrix
---   isEntry T w          the value w stands for a number from -T to T
---   shiftedQuotient v w  the shifted quotient of the value w
---   partA G, partB G, quotients G, remainders G   the four parts, in the order of the ticket
+--   parts G              the parts of a ticket, in order
+--   ofA, ofB, ofQuotients, ofRemainders   their numbers in that order
+--   noPart, part G w     a part without records, and part w
+--   partSize P, count l  how many records the part P has, and all parts of l
+--   start G w            the number of the first record of part w
 --   records G            how many records a ticket has
 --   recordBytes          the bytes of a record
 --   ticketLength G       how many bytes a ticket has
---   partOf G k           the part that holds record k
---   bytesOf t P          the bytes from the beginning of the part P
+--   holder l k           the number of the part that holds record k, of the parts l in order
+--   byteAt b i k         byte k of record i of b
 --   valueAt b i          the value of record i of b: its last 4 bytes, little-endian
---   formed b i κ r c     record i of b has kind κ, a zero byte, row r and column c: test 5
---   numberOf f v g o     the first of the tests 5, 6 and the range that fails, 0 where none does: the form is f, the value v
---                        in range by g, o the number of a value out of range
---   partNumber t P i     that number of record i of the part P
---   recordNumber G t k   the same of record k of the ticket
+--   formed b i κ r c     record i of b has kind κ, a zero byte, row r and column c
+--   partTests b i P j    the tests of record i of b, which is record j of the part P: 5, 6 and the range, in order
+--   recordTests G t k    the tests of record k of the ticket
+--   recordNumber G t k   the first of them that fails, 0 where none does
 --   firstRefusal a n f   the refusal by the first of n numbers that is not 0, its place counted from a; number 0 where all are 0
---   after x y            the answer x, where it refuses, else y
 --   recordsReading G t   the answer of the tests 4 to 9
 --   reading G t          the answer of the reading and range checks; its number is 0 where they pass
 --   Passes G t           they pass
---   valueIn t P i j      the value in row i, column j of the part P
+--   valueIn G t w i j    the value in row i, column j of part w
 --   entryA G t i k, entryB G t k j, quotient G t i j, remainder G t i j   the integers that the records stand for
---   claim G t i j        what the claim puts for the sum: scale times quotient plus remainder
---   exactSum G t i j     the exact sum S of row i of A times column j of B
+--   claim G t i j        what the claim puts for its sum: scale times quotient plus remainder
+--   exactSum G A B i j   the exact sum of row i of A times column j of B
+--   due G t i j          what the claim is compared with: the exact sum S of the ticket's operands
 --   Untrue G t i j       the claim in row i, column j is untrue
 --   FalseIn G t j        the ticket is false in column j: some row's claim there is untrue
 use Prim.Native.Nat.{ℕ, zero, suc, _+_, _-_, _*_, _/_, _%_, _^_, _<_}
 use mathlib.Core.Path.{_≡_}
-use mathlib.Core.Bool.{Bool, cond, _&&_}
-use mathlib.Core.List.{List}
+use mathlib.Core.Bool.{Bool, false, cond, _&&_}
+use mathlib.Core.List.{List, [], _∷_}
 use lib.Dec.{leb, ltb, eqb}
-use lib.ListN.{length, getD, drop}
+use lib.ListN.{length, getD, take}
 use lib.IntN.{ℤ, pos, natAbs, _+ℤ_, _-ℤ_, _*ℤ_}
 use Rattle.residue.specs.Rules.{modulus, signedEntry}
-use Rattle.algebra.specs.Rules.{sumℤ}
+use Rattle.algebra.specs.Rules.{matrixProduct, word}
 use Rattle.ticket.specs.declared.setting.Setting.{Setting}
 use Rattle.ticket.specs.declared.Answer.{Answer}
+
+-- answers
 
 unfoldable pub first : ℕ → (ℕ → Bool) → ℕ
 first zero f = 0
@@ -53,8 +69,32 @@ first (suc n) f = cond (f 0) (suc (first n (λ k. f (suc k)))) 0
 abbrev pub unless : {A : Type 0} → Bool → A → A → A
 unless holds refused rest = cond holds rest refused
 
+abbrev pub answer : ℕ → ℕ → ℕ → ℕ → Answer
+answer number place row products = record { number = number; place = place; row = row; products = products }
+
 abbrev pub refusal : ℕ → ℕ → Answer
-refusal number place = record { number = number; place = place; row = 0; products = 0 }
+refusal number place = answer number place 0 0
+
+unfoldable pub scan : ℕ → (ℕ → Bool) → (ℕ → Answer) → Answer → Answer
+scan n holds failed passed =
+    let k = first n holds in
+    unless (eqb k n) (failed k) passed
+
+unfoldable pub after : Answer → Answer → Answer
+after earlier later = cond (eqb (earlier .number) 0) later earlier
+
+-- tests in order
+
+pub record Test : Type 0 where
+  pub holds : Bool
+  pub number : ℕ
+
+abbrev pub test : Bool → ℕ → Test
+test holds number = record { holds = holds; number = number }
+
+unfoldable pub firstFailed : List Test → ℕ
+firstFailed [] = 0
+firstFailed (T ∷ rest) = unless (T .holds) (T .number) (firstFailed rest)
 
 -- the setting
 
@@ -73,6 +113,15 @@ mostColumns = 32
 abbrev pub mostVectors : ℕ
 mostVectors = 8
 
+abbrev pub reach : Setting → ℕ
+reach G = G .inner * (G .bound * G .bound)
+
+abbrev pub halfRange : Setting → ℕ
+halfRange G = 2 ^ (G .width - 1)
+
+abbrev pub lift : Setting → ℕ
+lift G = halfRange G * G .scale
+
 unfoldable pub sizesWithin : Setting → Bool
 sizesWithin G =
     within 1 mostRows (G .rows)
@@ -84,24 +133,18 @@ unfoldable pub numbersWithin : Setting → Bool
 numbersWithin G = within 2 65_536 (G .scale) && within 1 32_767 (G .bound) && within 1 30 (G .width)
 
 unfoldable pub fits : Setting → Bool
-fits G =
-    leb (G .inner * (G .bound * G .bound) + G .scale - 1) (2 ^ (G .width - 1) * G .scale)
-    && ltb (2 ^ G .width * G .scale) modulus
+fits G = leb (reach G + G .scale - 1) (lift G) && ltb (2 ^ G .width * G .scale) modulus
 
-unfoldable pub settingNumber : Setting → ℕ
-settingNumber G = unless (sizesWithin G) 1 (unless (numbersWithin G) 2 (unless (fits G) 3 0))
+unfoldable pub settingTests : Setting → List Test
+settingTests G = test (sizesWithin G) 1 ∷ test (numbersWithin G) 2 ∷ test (fits G) 3 ∷ []
+
+abbrev pub settingNumber : Setting → ℕ
+settingNumber G = firstFailed (settingTests G)
+
+abbrev pub sumProducts : Setting → ℕ
+sumProducts G = G .rows * G .inner * G .columns
 
 -- the layout
-
--- kind: its records' first byte; start: the number of its first record; rows and columns: its size; range: which values are
--- in range; outside: the number of the answer for one that is not
-pub record Part : Type 0 where
-  pub kind : ℕ
-  pub start : ℕ
-  pub rows : ℕ
-  pub columns : ℕ
-  pub range : ℕ → Bool
-  pub outside : ℕ
 
 unfoldable pub isEntry : ℕ → ℕ → Bool
 isEntry T value = leb (natAbs (signedEntry modulus value)) T
@@ -110,44 +153,57 @@ isEntry T value = leb (natAbs (signedEntry modulus value)) T
 unfoldable pub shiftedQuotient : ℕ → ℕ → ℕ
 shiftedQuotient v value = (value + 2 ^ (v - 1)) % modulus
 
-unfoldable pub partA : Setting → Part
-partA G = record { kind = 1; start = 0; rows = G .rows; columns = G .inner; range = isEntry (G .bound); outside = 7 }
+abbrev pub isQuotient : ℕ → ℕ → Bool
+isQuotient v value = ltb (shiftedQuotient v value) (2 ^ v)
 
-unfoldable pub partB : Setting → Part
-partB G =
-    record {
-      kind = 2;
-      start = G .rows * G .inner;
-      rows = G .inner;
-      columns = G .columns;
-      range = isEntry (G .bound);
-      outside = 7;
-    }
+-- kind: its records' first byte; rows and columns: its size; range: which values are in range; outside: the number of the answer
+-- for one that is not
+pub record Part : Type 0 where
+  pub kind : ℕ
+  pub rows : ℕ
+  pub columns : ℕ
+  pub range : ℕ → Bool
+  pub outside : ℕ
 
-unfoldable pub quotients : Setting → Part
-quotients G =
-    record {
-      kind = 3;
-      start = G .rows * G .inner + G .inner * G .columns;
-      rows = G .rows;
-      columns = G .columns;
-      range = λ value. ltb (shiftedQuotient (G .width) value) (2 ^ G .width);
-      outside = 8;
-    }
+unfoldable pub parts : Setting → List Part
+parts G =
+    record { kind = 1; rows = G .rows; columns = G .inner; range = isEntry (G .bound); outside = 7 }
+    ∷ record { kind = 2; rows = G .inner; columns = G .columns; range = isEntry (G .bound); outside = 7 }
+    ∷ record { kind = 3; rows = G .rows; columns = G .columns; range = isQuotient (G .width); outside = 8 }
+    ∷ record { kind = 4; rows = G .rows; columns = G .columns; range = λ value. ltb value (G .scale); outside = 9 }
+    ∷ []
 
-unfoldable pub remainders : Setting → Part
-remainders G =
-    record {
-      kind = 4;
-      start = G .rows * G .inner + G .inner * G .columns + G .rows * G .columns;
-      rows = G .rows;
-      columns = G .columns;
-      range = λ value. ltb value (G .scale);
-      outside = 9;
-    }
+abbrev pub ofA : ℕ
+ofA = 0
+
+abbrev pub ofB : ℕ
+ofB = 1
+
+abbrev pub ofQuotients : ℕ
+ofQuotients = 2
+
+abbrev pub ofRemainders : ℕ
+ofRemainders = 3
+
+-- past the last part there are no records
+abbrev pub noPart : Part
+noPart = record { kind = 0; rows = 0; columns = 0; range = λ value. false; outside = 0 }
+
+unfoldable pub part : Setting → ℕ → Part
+part G w = getD (parts G) w noPart
+
+abbrev pub partSize : Part → ℕ
+partSize P = P .rows * P .columns
+
+unfoldable pub count : List Part → ℕ
+count [] = 0
+count (P ∷ rest) = partSize P + count rest
+
+unfoldable pub start : Setting → ℕ → ℕ
+start G w = count (take w (parts G))
 
 unfoldable pub records : Setting → ℕ
-records G = G .rows * G .inner + G .inner * G .columns + 2 * (G .rows * G .columns)
+records G = count (parts G)
 
 abbrev pub recordBytes : ℕ
 recordBytes = 8
@@ -155,52 +211,41 @@ recordBytes = 8
 unfoldable pub ticketLength : Setting → ℕ
 ticketLength G = recordBytes * records G
 
-unfoldable pub partOf : Setting → ℕ → Part
-partOf G k =
-    cond (ltb k (partB G .start)) (partA G)
-    (cond (ltb k (quotients G .start)) (partB G)
-    (cond (ltb k (remainders G .start)) (quotients G) (remainders G)))
+unfoldable pub holder : List Part → ℕ → ℕ
+holder [] k = 0
+holder (P ∷ rest) k = cond (ltb k (partSize P)) 0 (suc (holder rest (k - partSize P)))
 
 -- the records
 
-unfoldable pub bytesOf : List ℕ → Part → List ℕ
-bytesOf t P = drop (recordBytes * P .start) t
+abbrev pub byteAt : List ℕ → ℕ → ℕ → ℕ
+byteAt bytes i k = getD bytes (recordBytes * i + k) 0
 
 unfoldable pub valueAt : List ℕ → ℕ → ℕ
-valueAt bytes i =
-    getD bytes (recordBytes * i + 4) 0
-    + 256 * getD bytes (recordBytes * i + 5) 0
-    + 65_536 * getD bytes (recordBytes * i + 6) 0
-    + 16_777_216 * getD bytes (recordBytes * i + 7) 0
+valueAt bytes i = word (byteAt bytes i 4) (byteAt bytes i 5) (byteAt bytes i 6) (byteAt bytes i 7)
 
--- kind, zero byte, row and column of record i are as expected
 unfoldable pub formed : List ℕ → ℕ → ℕ → ℕ → ℕ → Bool
 formed bytes i kind row column =
-    eqb (getD bytes (recordBytes * i) 0) kind
-    && eqb (getD bytes (recordBytes * i + 1) 0) 0
-    && eqb (getD bytes (recordBytes * i + 2) 0) row
-    && eqb (getD bytes (recordBytes * i + 3) 0) column
+    eqb (byteAt bytes i 0) kind && eqb (byteAt bytes i 1) 0 && eqb (byteAt bytes i 2) row && eqb (byteAt bytes i 3) column
 
-unfoldable pub numberOf : Bool → ℕ → Bool → ℕ → ℕ
-numberOf form value range outside = unless form 5 (unless (ltb value modulus) 6 (unless range outside 0))
+unfoldable pub partTests : List ℕ → ℕ → Part → ℕ → List Test
+partTests bytes i P j =
+    test (formed bytes i (P .kind) (j / P .columns) (j % P .columns)) 5
+    ∷ test (ltb (valueAt bytes i) modulus) 6
+    ∷ test (P .range (valueAt bytes i)) (P .outside)
+    ∷ []
 
-unfoldable pub partNumber : List ℕ → Part → ℕ → ℕ
-partNumber t P i =
-    let bytes = bytesOf t P in
-    numberOf (formed bytes i (P .kind) (i / P .columns) (i % P .columns)) (valueAt bytes i) (P .range (valueAt bytes i)) (P .outside)
+unfoldable pub recordTests : Setting → List ℕ → ℕ → List Test
+recordTests G t k =
+    let w = holder (parts G) k in
+    partTests t k (part G w) (k - start G w)
 
-unfoldable pub recordNumber : Setting → List ℕ → ℕ → ℕ
-recordNumber G t k = partNumber t (partOf G k) (k - partOf G k .start)
+abbrev pub recordNumber : Setting → List ℕ → ℕ → ℕ
+recordNumber G t k = firstFailed (recordTests G t k)
 
 -- the answer
 
 unfoldable pub firstRefusal : ℕ → ℕ → (ℕ → ℕ) → Answer
-firstRefusal start n number =
-    let k = first n (λ i. eqb (number i) 0) in
-    unless (eqb k n) (refusal (number k) (start + k)) (refusal 0 0)
-
-unfoldable pub after : Answer → Answer → Answer
-after earlier later = cond (eqb (earlier .number) 0) later earlier
+firstRefusal from n number = scan n (λ k. eqb (number k) 0) (λ k. refusal (number k) (from + k)) (refusal 0 0)
 
 unfoldable pub recordsReading : Setting → List ℕ → Answer
 recordsReading G t = unless (eqb (length t) (ticketLength G)) (refusal 4 0) (firstRefusal 0 (records G) (recordNumber G t))
@@ -213,29 +258,32 @@ Passes G t = reading G t .number ≡ 0
 
 -- what the records stand for
 
-unfoldable pub valueIn : List ℕ → Part → ℕ → ℕ → ℕ
-valueIn t P i j = valueAt (bytesOf t P) (i * P .columns + j)
+unfoldable pub valueIn : Setting → List ℕ → ℕ → ℕ → ℕ → ℕ
+valueIn G t w i j = valueAt t (start G w + (i * part G w .columns + j))
 
 unfoldable pub entryA : Setting → List ℕ → ℕ → ℕ → ℤ
-entryA G t i k = signedEntry modulus (valueIn t (partA G) i k)
+entryA G t i k = signedEntry modulus (valueIn G t ofA i k)
 
 unfoldable pub entryB : Setting → List ℕ → ℕ → ℕ → ℤ
-entryB G t k j = signedEntry modulus (valueIn t (partB G) k j)
+entryB G t k j = signedEntry modulus (valueIn G t ofB k j)
 
 unfoldable pub quotient : Setting → List ℕ → ℕ → ℕ → ℤ
-quotient G t i j = pos (shiftedQuotient (G .width) (valueIn t (quotients G) i j)) -ℤ pos (2 ^ (G .width - 1))
+quotient G t i j = pos (shiftedQuotient (G .width) (valueIn G t ofQuotients i j)) -ℤ pos (halfRange G)
 
 unfoldable pub remainder : Setting → List ℕ → ℕ → ℕ → ℤ
-remainder G t i j = pos (valueIn t (remainders G) i j)
+remainder G t i j = pos (valueIn G t ofRemainders i j)
 
 unfoldable pub claim : Setting → List ℕ → ℕ → ℕ → ℤ
 claim G t i j = pos (G .scale) *ℤ quotient G t i j +ℤ remainder G t i j
 
-unfoldable pub exactSum : Setting → List ℕ → ℕ → ℕ → ℤ
-exactSum G t i j = sumℤ (G .inner) (λ k. entryA G t i k *ℤ entryB G t k j)
+unfoldable pub exactSum : Setting → (ℕ → ℕ → ℤ) → (ℕ → ℕ → ℤ) → ℕ → ℕ → ℤ
+exactSum G A B i j = matrixProduct (G .inner) A B i j
+
+unfoldable pub due : Setting → List ℕ → ℕ → ℕ → ℤ
+due G t i j = exactSum G (entryA G t) (entryB G t) i j
 
 abbrev pub Untrue : Setting → List ℕ → ℕ → ℕ → Type 0
-Untrue G t i j = claim G t i j ≡ exactSum G t i j → ⊥
+Untrue G t i j = claim G t i j ≡ due G t i j → ⊥
 
 abbrev pub FalseIn : Setting → List ℕ → ℕ → Type 0
 FalseIn G t j = (j < G .columns) × ((i : ℕ) × (i < G .rows) × Untrue G t i j)

@@ -1,175 +1,274 @@
--- The layout of a ticket: record numbers and their part, row and column (T4).
+-- The layout of a ticket: record numbers and their part, row and column (T4). Everything is over the list of parts; a part more or
+-- less changes no line here but those of `PartsAre`.
 --
---   Name, partNamed G w   the four parts by name
---   PartsMeet G, parts-meet   the first part starts at record 0, each other one where the one before it ends, the last ends the ticket
+--   part-all              what holds of each part of a list holds of part w
+--   start-none, start-next, ends-within   where the parts start: the first at 0, each other one where the one before it ends
+--   records-end           past the last part there are no records
+--   holder-at, held       the part that holds a record
+--   PartsAre G, parts-are the sizes of the parts by name, and where each starts
 --   length-is             how many bytes a ticket has
---   bytes-of-B            the part that holds B starts at byte 8 · rows · inner
+--   start-of-B            the part that holds B starts at byte 8 · rows · inner
+--   partBytes G t w       the bytes of part w
+--   part-bytes-long       how many they are, of a ticket that is long enough
 --   form-of-part, value-of-part   record i of a part is record start + i of the ticket
---   Located G k w i j     record k is in the part of the name w, in row i, column j
+--   Located G k w i j     record k is in part w, in row i, column j
 --   record-at             every row and column of every part is at one record number
 --   located-at            every record number is at a row and a column of a part
 --   located-once          and at no other part, row or column
-use Prim.Native.Nat.{ℕ, _+_, _-_, _*_, _/_, _%_, _≤_, _<_}
+--   tests-located         the tests of a record by its part, row and column
+--   value-in              the value in a row and a column of a part is that of its record
+use Prim.Native.Nat.{ℕ, zero, suc, _+_, _-_, _*_, _/_, _%_, _≤_, _<_}
 use native.Mathlib.Nat.{mod-lt, div-add-mod', div-lt-iff-lt-mul}
 use native.Mathlib.Decide.{decLe}
+use native.Mathlib.Numerals.{add-one}
 use native.Mathlib.Omega.{arith}
 use lib.Arith.{digits-div, digits-mod, digits-lt}
 use mathlib.Core.Path.{_≡_, refl, sym, ap, _∙_}
-use mathlib.Core.Bool.{cond}
-use mathlib.Core.List.{List}
-use lib.Dec.{eqb}
-use lib.ListN.{getD, drop}
-use lib.Seq.{getD-drop}
+use mathlib.Core.Bool.{Bool}
+use mathlib.Core.List.{List, [], _∷_}
+use borrow.Author.Tests.{lt-ltb, le-ltb}
+use lib.Dec.{ltb}
+use lib.ListN.{length, getD, take, drop, length-drop}
+use lib.Seq.{take-all, getD-drop, getD-take, length-take-le}
+use Rattle.residue.specs.Rules.{modulus}
 use Rattle.ticket.specs.declared.setting.Setting.{Setting}
-use Rattle.ticket.specs.Rules.{Part, partA, partB, quotients, remainders, partOf, records, recordBytes, ticketLength, bytesOf, formed, valueAt}
-use Rattle.ticket.specs.Laws.Limits.{Sizes}
-use Rattle.ticket.specs.Laws.Parts.{in-A, in-B, in-quotients, in-remainders}
+use Rattle.ticket.specs.Rules.{Test, test, Part, noPart, parts, part, partSize, count, start, records, recordBytes, ticketLength, holder, ofA, ofB, ofQuotients, ofRemainders, byteAt, valueAt, formed, partTests, recordTests, valueIn}
 
-pub data Name : Type 0 where
-  nameA : Name
-  nameB : Name
-  nameQuotients : Name
-  nameRemainders : Name
+-- any list of parts
 
-abbrev pub partNamed : Setting → Name → Part
-partNamed G nameA = partA G
-partNamed G nameB = partB G
-partNamed G nameQuotients = quotients G
-partNamed G nameRemainders = remainders G
+abbrev nth : List Part → ℕ → Part
+nth l w = getD l w noPart
 
-pub record PartsMeet (G : Setting) : Type 0 where
-  pub A-starts : partA G .start ≡ 0
-  pub A-ends : partA G .start + partA G .rows * partA G .columns ≡ partB G .start
-  pub B-ends : partB G .start + partB G .rows * partB G .columns ≡ quotients G .start
-  pub quotients-end : quotients G .start + quotients G .rows * quotients G .columns ≡ remainders G .start
-  pub remainders-end : remainders G .start + remainders G .rows * remainders G .columns ≡ records G
+pub data Each (Q : Part → Type 0) : List Part → Type 0 where
+  no-parts : Each Q []
+  one-part : {P : Part} {rest : List Part} → Q P → Each Q rest → Each Q (P ∷ rest)
 
-pub parts-meet : (G : Setting) → PartsMeet G
-unfolding partA partB quotients remainders records
-parts-meet G =
+nth-all : {Q : Part → Type 0} {l : List Part} → Each Q l → (w : ℕ) → w < length l → Q (nth l w)
+nth-all no-parts w m = absurd (omega arith)
+nth-all (one-part q r) zero m = q
+nth-all (one-part q r) (suc w) m = nth-all r w (omega arith)
+
+next-count : (l : List Part) (w : ℕ) → count (take (suc w) l) ≡ count (take w l) + partSize (nth l w)
+unfolding count
+next-count [] zero = refl
+next-count [] (suc w) = refl
+next-count (P ∷ rest) zero = omega arith
+next-count (P ∷ rest) (suc w) = omega (arith, next-count rest w)
+
+count-within : (l : List Part) (w : ℕ) → count (take w l) + partSize (nth l w) ≤ count l
+unfolding count
+count-within [] zero = omega arith
+count-within [] (suc w) = omega arith
+count-within (P ∷ rest) zero = omega arith
+count-within (P ∷ rest) (suc w) = omega (arith, count-within rest w)
+
+holder-nth : (l : List Part) (w i : ℕ) → i < partSize (nth l w) → holder l (count (take w l) + i) ≡ w
+unfolding count holder
+holder-nth [] zero i m = absurd (omega arith)
+holder-nth [] (suc w) i m = absurd (omega arith)
+holder-nth (P ∷ rest) zero i m = rw (lt-ltb (0 + i) (partSize P) (omega arith))
+holder-nth (P ∷ rest) (suc w) i m =
+    let k = partSize P + count (take w rest) + i in
+    let past : k - partSize P ≡ count (take w rest) + i = omega arith in
+    rw (le-ltb k (partSize P) (omega arith), past) (ap suc (holder-nth rest w i m))
+
+record HeldIn (l : List Part) (k w : ℕ) : Type 0 where
+  within : w < length l
+  from : count (take w l) ≤ k
+  below : k < count (take w l) + partSize (nth l w)
+
+held-in : (l : List Part) (k : ℕ) → k < count l → HeldIn l k (holder l k)
+unfolding count holder
+held-in [] k m = absurd (omega arith)
+held-in (P ∷ rest) k m =
+    elim (decLe (partSize P) k) [
+      | no a ↦
+          let here : k < partSize P = omega arith in
+          rw (lt-ltb k (partSize P) here) (record { within = omega arith; from = omega arith; below = omega arith })
+      | yes a ↦
+          let h = held-in rest (k - partSize P) (omega arith) in
+          rw (le-ltb k (partSize P) a)
+          (record { within = omega (arith, h .within); from = omega (arith, h .from); below = omega (arith, h .below) })
+    ]
+
+count-all : (l : List Part) {w : ℕ} → length l ≤ w → count (take w l) ≡ count l
+count-all l h = ap count (take-all _ l h)
+
+-- the ticket's
+
+module _ (G : Setting) where
+  pub part-all : {Q : Part → Type 0} → Each Q (parts G) → {w : ℕ} → w < length (parts G) → Q (part G w)
+  unfolding part
+  part-all each {w} m = nth-all each w m
+
+  pub start-none : start G 0 ≡ 0
+  unfolding start count
+  start-none = refl
+
+  pub start-next : (w : ℕ) → start G (w + 1) ≡ start G w + partSize (part G w)
+  unfolding start part
+  start-next w = rw (add-one w) (next-count (parts G) w)
+
+  pub ends-within : (w : ℕ) → start G w + partSize (part G w) ≤ records G
+  unfolding start part records
+  ends-within w = count-within (parts G) w
+
+  pub records-end : {w : ℕ} → length (parts G) ≤ w → start G w ≡ records G
+  unfolding start records
+  records-end h = count-all (parts G) h
+
+  pub holder-at : {w i : ℕ} → i < partSize (part G w) → holder (parts G) (start G w + i) ≡ w
+  unfolding start part
+  holder-at {w} {i} m = holder-nth (parts G) w i m
+
+  pub record Held (k w : ℕ) : Type 0 where
+    pub within : w < length (parts G)
+    pub from : start G w ≤ k
+    pub below : k < start G w + partSize (part G w)
+
+  pub held : {k : ℕ} → k < records G → Held k (holder (parts G) k)
+  unfolding start part records
+  held {k} m = let h = held-in (parts G) k m in record { within = h .within; from = h .from; below = h .below }
+
+-- the parts by name
+pub record PartsAre (G : Setting) : Type 0 where
+  pub four : length (parts G) ≡ 4
+  pub size-A : partSize (part G ofA) ≡ G .rows * G .inner
+  pub size-B : partSize (part G ofB) ≡ G .inner * G .columns
+  pub size-quotients : partSize (part G ofQuotients) ≡ G .rows * G .columns
+  pub size-remainders : partSize (part G ofRemainders) ≡ G .rows * G .columns
+  pub start-A : start G ofA ≡ 0
+  pub start-B : start G ofB ≡ G .rows * G .inner
+  pub start-quotients : start G ofQuotients ≡ G .rows * G .inner + G .inner * G .columns
+  pub start-remainders : start G ofRemainders ≡ G .rows * G .inner + G .inner * G .columns + G .rows * G .columns
+  pub all : records G ≡ G .rows * G .inner + G .inner * G .columns + 2 * (G .rows * G .columns)
+
+pub parts-are : (G : Setting) → PartsAre G
+unfolding parts part start records count
+parts-are G =
     record {
-      A-starts = refl;
-      A-ends = omega arith;
-      B-ends = refl;
-      quotients-end = refl;
-      remainders-end = omega arith;
+      four = refl;
+      size-A = refl;
+      size-B = refl;
+      size-quotients = refl;
+      size-remainders = refl;
+      start-A = refl;
+      start-B = omega arith;
+      start-quotients = omega arith;
+      start-remainders = omega arith;
+      all = omega arith;
     }
 
 pub length-is : (G : Setting) → ticketLength G ≡ 8 * (G .rows * G .inner + G .inner * G .columns + 2 * (G .rows * G .columns))
-unfolding ticketLength records
-length-is G = refl
+unfolding ticketLength
+length-is G = ap (λ n. 8 * n) (parts-are G .all)
 
-pub bytes-of-B : (G : Setting) (t : List ℕ) → bytesOf t (partB G) ≡ drop (8 * (G .rows * G .inner)) t
-unfolding bytesOf partB
-bytes-of-B G t = refl
+pub start-of-B : (G : Setting) → recordBytes * start G ofB ≡ 8 * (G .rows * G .inner)
+start-of-B G = ap (λ n. 8 * n) (parts-are G .start-B)
 
-module _ (t : List ℕ) (P : Part) (i : ℕ) where
-  byte-of-part : (byte : ℕ) → getD (bytesOf t P) (recordBytes * i + byte) 0 ≡ getD t (recordBytes * (P .start + i) + byte) 0
-  unfolding bytesOf
-  byte-of-part byte = rw getD-drop (ap (λ n. getD t n 0) (omega arith))
+-- the bytes of a part
 
-  first-byte-of-part : getD (bytesOf t P) (recordBytes * i) 0 ≡ getD t (recordBytes * (P .start + i)) 0
-  unfolding bytesOf
-  first-byte-of-part = rw getD-drop (ap (λ n. getD t n 0) (omega arith))
+unfoldable pub partBytes : Setting → List ℕ → ℕ → List ℕ
+partBytes G t w = take (recordBytes * partSize (part G w)) (drop (recordBytes * start G w) t)
 
-  pub form-of-part : (kind row column : ℕ) → formed (bytesOf t P) i kind row column ≡ formed t (P .start + i) kind row column
-  unfolding formed
-  form-of-part kind row column = rw (first-byte-of-part, byte-of-part 1, byte-of-part 2, byte-of-part 3)
+module _ (G : Setting) (t : List ℕ) (w : ℕ) where
+  pub part-bytes-long : length t ≡ ticketLength G → length (partBytes G t w) ≡ recordBytes * partSize (part G w)
+  unfolding partBytes ticketLength
+  part-bytes-long long =
+      length-take-le (recordBytes * partSize (part G w)) (drop (recordBytes * start G w) t)
+      (omega (arith, ends-within G w, length-drop (recordBytes * start G w) t))
 
-  pub value-of-part : valueAt (bytesOf t P) i ≡ valueAt t (P .start + i)
-  unfolding valueAt
-  value-of-part = rw (byte-of-part 4, byte-of-part 5, byte-of-part 6, byte-of-part 7)
+  byte-of-part : {i byte : ℕ} → i < partSize (part G w) → byte < recordBytes
+      → byteAt (partBytes G t w) i byte ≡ byteAt t (start G w + i) byte
+  unfolding partBytes
+  byte-of-part {i} {byte} m l =
+      getD-take (recordBytes * partSize (part G w)) (drop (recordBytes * start G w) t) (recordBytes * i + byte) 0 (omega arith)
+      ∙ getD-drop (recordBytes * start G w) t (recordBytes * i + byte) 0 ∙ ap (λ n. getD t n 0) (omega arith)
 
-pub record Located (G : Setting) (k : ℕ) (w : Name) (row column : ℕ) : Type 0 where
-  pub part : partOf G k ≡ partNamed G w
-  pub place : k ≡ partNamed G w .start + (row * partNamed G w .columns + column)
-  pub row-within : row < partNamed G w .rows
-  pub column-within : column < partNamed G w .columns
+  module _ {i : ℕ} (m : i < partSize (part G w)) where
+    pub form-of-part : (kind row column : ℕ) → formed (partBytes G t w) i kind row column ≡ formed t (start G w + i) kind row column
+    unfolding formed
+    form-of-part kind row column =
+        rw (
+          byte-of-part {byte = 0} m (omega arith),
+          byte-of-part {byte = 1} m (omega arith),
+          byte-of-part {byte = 2} m (omega arith),
+          byte-of-part {byte = 3} m (omega arith),
+        )
 
-module _ (G : Setting) where
-  -- record i of a part is in it
-  in-part : (w : Name) (i : ℕ) → i < partNamed G w .rows * partNamed G w .columns → partOf G (partNamed G w .start + i) ≡ partNamed G w
-  unfolding partA partB quotients remainders
-  in-part nameA i l = in-A G (0 + i) (omega arith)
-  in-part nameB i l = in-B G i l
-  in-part nameQuotients i l = in-quotients G i l
-  in-part nameRemainders i l = in-remainders G i
+    pub value-of-part : valueAt (partBytes G t w) i ≡ valueAt t (start G w + i)
+    unfolding valueAt
+    value-of-part =
+        rw (
+          byte-of-part {byte = 4} m (omega arith),
+          byte-of-part {byte = 5} m (omega arith),
+          byte-of-part {byte = 6} m (omega arith),
+          byte-of-part {byte = 7} m (omega arith),
+        )
 
-  ends-within : (w : Name) → partNamed G w .start + partNamed G w .rows * partNamed G w .columns ≤ records G
-  ends-within nameA = omega (arith, parts-meet G)
-  ends-within nameB = omega (arith, parts-meet G)
-  ends-within nameQuotients = omega (arith, parts-meet G)
-  ends-within nameRemainders = omega (arith, parts-meet G)
+-- records by part, row and column
 
-  pub record-at : (w : Name) (row column : ℕ) → row < partNamed G w .rows → column < partNamed G w .columns
-      → (partNamed G w .start + (row * partNamed G w .columns + column) < records G)
-      × Located G (partNamed G w .start + (row * partNamed G w .columns + column)) w row column
-  record-at w row column l m =
-      let i = row * partNamed G w .columns + column in
-      let inside : i < partNamed G w .rows * partNamed G w .columns = digits-lt l m in
-      (omega (arith, ends-within w), record { part = in-part w i inside; place = refl; row-within = l; column-within = m })
+pub record Located (G : Setting) (k w row column : ℕ) : Type 0 where
+  pub in-part : holder (parts G) k ≡ w
+  pub place : k ≡ start G w + (row * part G w .columns + column)
+  pub row-within : row < part G w .rows
+  pub column-within : column < part G w .columns
 
-  module _ (sizes : Sizes G) where
-    columns-positive : (w : Name) → 0 < partNamed G w .columns
-    unfolding partA partB quotients remainders
-    columns-positive nameA = omega (arith, sizes .inner)
-    columns-positive nameB = omega (arith, sizes .columns)
-    columns-positive nameQuotients = omega (arith, sizes .columns)
-    columns-positive nameRemainders = omega (arith, sizes .columns)
+pub record-at : (G : Setting) (w row column : ℕ) → row < part G w .rows → column < part G w .columns
+    → (start G w + (row * part G w .columns + column) < records G)
+    × Located G (start G w + (row * part G w .columns + column)) w row column
+record-at G w row column l m =
+    let inside : row * part G w .columns + column < partSize (part G w) = digits-lt l m in (
+      omega (arith, ends-within G w),
+      record { in-part = holder-at G inside; place = refl; row-within = l; column-within = m },
+    )
 
-    -- record i of a part, by the row and the column of i
-    located : (w : Name) (k : ℕ) → partNamed G w .start ≤ k → k < partNamed G w .start + partNamed G w .rows * partNamed G w .columns
-        → Located G k w ((k - partNamed G w .start) / partNamed G w .columns) ((k - partNamed G w .start) % partNamed G w .columns)
-    located w k l m =
-        let P = partNamed G w in
-        let i = k - P .start in
-        let there : P .start + i ≡ k = omega arith in
-        let inside : i < P .rows * P .columns = omega arith in
-        record {
-          part = rw there at (in-part w i inside);
-          place = omega (arith, div-add-mod' i (P .columns));
-          row-within = div-lt-iff-lt-mul (columns-positive w) .1 inside;
-          column-within = mod-lt i (columns-positive w);
-        }
+pub located-at : (G : Setting) (k : ℕ) → k < records G
+    → (w : ℕ) × (w < length (parts G)) × Located G k w ((k - start G w) / part G w .columns) ((k - start G w) % part G w .columns)
+located-at G k l =
+    let w = holder (parts G) k in
+    let P = part G w in
+    let i = k - start G w in
+    let h = held G l in
+    let inside : i < partSize P = omega (arith, h .from, h .below) in
+    let some : 0 < P .columns = elim (decLe 1 (P .columns)) [
+      | yes le ↦ le
+      | no lt ↦ let none : P .columns ≡ 0 = omega arith in absurd (omega (arith, ap (λ n. P .rows * n) none))
+    ] in (
+      w,
+      h .within,
+      record {
+        in-part = refl;
+        place = omega (arith, div-add-mod' i (P .columns), h .from);
+        row-within = div-lt-iff-lt-mul some .1 inside;
+        column-within = mod-lt i some;
+      },
+    )
 
-    pub located-at : (k : ℕ) → k < records G
-        → (w : Name)
-        × Located G k w ((k - partNamed G w .start) / partNamed G w .columns) ((k - partNamed G w .start) % partNamed G w .columns)
-    located-at k l =
-        let m = parts-meet G in
-        elim (decLe (partB G .start) k) [
-          | no a ↦ (nameA, located nameA k (omega arith) (omega arith))
-          | yes a ↦
-              elim (decLe (quotients G .start) k) [
-                | no b ↦ (nameB, located nameB k (omega arith) (omega arith))
-                | yes b ↦
-                    elim (decLe (remainders G .start) k) [
-                      | no c ↦ (nameQuotients, located nameQuotients k (omega arith) (omega arith))
-                      | yes c ↦ (nameRemainders, located nameRemainders k (omega arith) (omega arith))
-                    ]
-              ]
-        ]
+pub located-once : {G : Setting} {k w w' row row' column column' : ℕ}
+    → Located G k w row column → Located G k w' row' column' → (w ≡ w') × (row ≡ row') × (column ≡ column')
+located-once {G} {k} {w} {w'} {row} {row'} {column} {column'} a b =
+    let same : w ≡ w' = sym (a .in-part) ∙ b .in-part in
+    let P = part G w' in
+    let place : k ≡ start G w' + (row * P .columns + column) = rw same at (a .place) in
+    let inside : column < P .columns = rw same at (a .column-within) in
+    let index : row * P .columns + column ≡ row' * P .columns + column' = omega (arith, place, b .place) in (
+      same,
+      sym (digits-div row inside) ∙ ap (λ n. n / P .columns) index ∙ digits-div row' (b .column-within),
+      sym (digits-mod row inside) ∙ ap (λ n. n % P .columns) index ∙ digits-mod row' (b .column-within),
+    )
 
-  -- the name of a part by its kind
-  name : ℕ → Name
-  name kind = cond (eqb kind 1) nameA (cond (eqb kind 2) nameB (cond (eqb kind 3) nameQuotients nameRemainders))
+pub tests-located : {G : Setting} (t : List ℕ) {k w row column : ℕ} → Located G k w row column
+    → recordTests G t k
+    ≡ test (formed t k (part G w .kind) row column) 5
+    ∷ test (ltb (valueAt t k) modulus) 6
+    ∷ test (part G w .range (valueAt t k)) (part G w .outside)
+    ∷ []
+unfolding recordTests partTests
+tests-located {G} t {k} {w} {row} {column} at =
+    let index : k - start G w ≡ row * part G w .columns + column = omega (arith, at .place) in
+    rw (at .in-part, index, digits-div row (at .column-within), digits-mod row (at .column-within))
 
-  named : (w : Name) → name (partNamed G w .kind) ≡ w
-  unfolding partA partB quotients remainders name
-  named nameA = refl
-  named nameB = refl
-  named nameQuotients = refl
-  named nameRemainders = refl
-
-  pub located-once : {k : ℕ} {w w' : Name} {row row' column column' : ℕ}
-      → Located G k w row column → Located G k w' row' column' → (w ≡ w') × (row ≡ row') × (column ≡ column')
-  located-once {k} {w} {w'} {row} {row'} {column} {column'} a b =
-      let same : w ≡ w' = sym (named w) ∙ ap (λ P. name (P .kind)) (sym (a .part) ∙ b .part) ∙ named w' in
-      let P = partNamed G w' in
-      let place : k ≡ P .start + (row * P .columns + column) = rw same at (a .place) in
-      let inside : column < P .columns = rw same at (a .column-within) in
-      let index : row * P .columns + column ≡ row' * P .columns + column' = omega (arith, place, b .place) in (
-        same,
-        sym (digits-div row inside) ∙ ap (λ n. n / P .columns) index ∙ digits-div row' (b .column-within),
-        sym (digits-mod row inside) ∙ ap (λ n. n % P .columns) index ∙ digits-mod row' (b .column-within),
-      )
+pub value-in : (G : Setting) (t : List ℕ) (w i j : ℕ) → valueIn G t w i j ≡ valueAt t (start G w + (i * part G w .columns + j))
+unfolding valueIn
+value-in G t w i j = refl

@@ -4,27 +4,28 @@
 --   within-both            a number within its limits is not below the low one nor above the high one
 --   Sizes G                the sizes are within their limits, as inequalities
 --   Numbers G              scale, bound and width are within theirs
---   sizes-of, numbers-of   from the tests
 --   Fitted G               the setting fits, as inequalities
---   fitted-of              from the test
---   Counts G, counts       how many records the parts have at most, and numbers a challenge list
---   Half G h, half-of      h is 2^(v - 1), from the table of powers
---   FitProducts G h, fit-products   the products of the test of the fit, none of them large
---   fits-by-products       the test of the fit by these products
---   passed-setting         where settingNumber is 0, all three hold
-use Prim.Native.Nat.{ℕ, suc, _+_, _-_, _*_, _^_, _≤_, _<_}
-use native.Mathlib.Nat.{mul-le-mul, pow-suc}
+--   Within G, limits-of    all three, from the tests of the setting
+--   setting-numbered       the numbers of the tests are 1 to 3
+--   Counts G, counts       how many records the parts have at most, numbers a challenge list, and products all sums
+--   half-small, half-double   half of the quotients' range is small, and twice that is the range
+--   FitProducts G, fit-products   the products of the test of the fit, none of them large
+--   lift-small             twice the lift of a setting that fits is below p
+--   clamped G              the setting with no size, scale or width above its limit
+--   clamped-same           that is the setting itself, where it is within its limits
+--   ClampedSizes G, clamped-sizes   the products of the sizes of a clamped setting are not large
+use Prim.Native.Nat.{ℕ, suc, _+_, _-_, _*_, _^_, _≤_, _<_, min}
+use native.Mathlib.Nat.{mul-le-mul, pow-suc, min-eq-left, min-le-right}
 use native.Mathlib.Omega.{arith}
-use mathlib.Core.Path.{_≡_, refl, ap, _∙_}
-use mathlib.Core.Bool.{Bool, true, false, _&&_, and-eq-true-iff}
+use mathlib.Core.Path.{_≡_, refl, ap}
+use mathlib.Core.Bool.{Bool, true, _&&_, and-eq-true-iff}
 use borrow.Author.Tests.{leb-true, ltb-true}
 use lib.Dec.{leb, ltb}
 use lib.Pow.{pow-mono}
-use Rattle.residue.specs.Rules.{modulus, powerOfTwo}
-use Rattle.residue.specs.Laws.Powers.{power-within}
-use Rattle.residue.specs.Laws.Modulus.{modulus-is}
+use Rattle.residue.specs.Rules.{modulus}
 use Rattle.ticket.specs.declared.setting.Setting.{Setting}
-use Rattle.ticket.specs.Rules.{within, mostRows, mostInner, mostColumns, mostVectors, unless, sizesWithin, numbersWithin, fits, settingNumber}
+use Rattle.ticket.specs.Rules.{within, mostRows, mostInner, mostColumns, mostVectors, reach, halfRange, lift, sizesWithin, numbersWithin, fits, settingTests, sumProducts}
+use Rattle.ticket.specs.Laws.Tests.{AllHold, first-holds, rest-hold, Numbered}
 
 pub both : (a b : Bool) → (a && b) ≡ true → (a ≡ true) × (b ≡ true)
 both a b e = and-eq-true-iff a b .0 e
@@ -46,21 +47,14 @@ pub record Numbers (G : Setting) : Type 0 where
   pub width : (1 ≤ G .width) × (G .width ≤ 30)
 
 pub record Fitted (G : Setting) : Type 0 where
-  pub sums : G .inner * (G .bound * G .bound) + G .scale - 1 ≤ 2 ^ (G .width - 1) * G .scale
+  pub sums : reach G + G .scale - 1 ≤ lift G
   pub claims : 2 ^ G .width * G .scale < modulus
 
--- half is 2^(v - 1), half of what a shifted quotient is below
-pub record Half (G : Setting) (half : ℕ) : Type 0 where
-  pub power : half ≡ 2 ^ (G .width - 1)
-  pub small : half ≤ 2 ^ 29
-  pub double : 2 * half ≡ 2 ^ G .width
-
 -- the products of the test of the fit: none is large
-pub record FitProducts (G : Setting) (half : ℕ) : Type 0 where
-  pub half-is : Half G half
+pub record FitProducts (G : Setting) : Type 0 where
   pub square : G .bound * G .bound ≤ 32_767 * 32_767
-  pub sums : G .inner * (G .bound * G .bound) ≤ mostInner * (32_767 * 32_767)
-  pub shifted : half * G .scale ≤ 2 ^ 29 * 65_536
+  pub sums : reach G ≤ mostInner * (32_767 * 32_767)
+  pub lifted : lift G ≤ 2 ^ 29 * 65_536
 
 -- the records of A, of B and of the claims, and the numbers of a challenge list: none are many
 pub record Counts (G : Setting) : Type 0 where
@@ -69,6 +63,7 @@ pub record Counts (G : Setting) : Type 0 where
   pub entries-B : G .inner * G .columns ≤ mostInner * mostColumns
   pub claims : G .rows * G .columns ≤ mostRows * mostColumns
   pub challenges : G .vectors * G .columns ≤ mostVectors * mostColumns
+  pub products : sumProducts G ≤ mostRows * mostInner * mostColumns
 
 pub counts : {G : Setting} → Sizes G → Counts G
 counts {G} sizes =
@@ -78,9 +73,10 @@ counts {G} sizes =
       entries-B = mul-le-mul (sizes .inner .1) (sizes .columns .1);
       claims = mul-le-mul (sizes .rows .1) (sizes .columns .1);
       challenges = mul-le-mul (sizes .vectors .1) (sizes .columns .1);
+      products = mul-le-mul (mul-le-mul (sizes .rows .1) (sizes .inner .1)) (sizes .columns .1);
     }
 
-pub sizes-of : (G : Setting) → sizesWithin G ≡ true → Sizes G
+sizes-of : (G : Setting) → sizesWithin G ≡ true → Sizes G
 unfolding sizesWithin
 sizes-of G e =
     let h = both (within 1 mostRows (G .rows) && within 1 mostInner (G .inner) && within 1 mostColumns (G .columns)) (within 1 mostVectors (G .vectors)) e in
@@ -93,7 +89,7 @@ sizes-of G e =
       vectors = within-both 1 mostVectors (G .vectors) (h .1);
     }
 
-pub numbers-of : (G : Setting) → numbersWithin G ≡ true → Numbers G
+numbers-of : (G : Setting) → numbersWithin G ≡ true → Numbers G
 unfolding numbersWithin
 numbers-of G e =
     let h = both (within 2 65_536 (G .scale) && within 1 32_767 (G .bound)) (within 1 30 (G .width)) e in
@@ -104,46 +100,86 @@ numbers-of G e =
       width = within-both 1 30 (G .width) (h .1);
     }
 
-pub fitted-of : (G : Setting) → fits G ≡ true → Fitted G
+fitted-of : (G : Setting) → fits G ≡ true → Fitted G
 unfolding fits
 fitted-of G e =
-    let h = both (leb (G .inner * (G .bound * G .bound) + G .scale - 1) (2 ^ (G .width - 1) * G .scale)) (ltb (2 ^ G .width * G .scale) modulus) e in
+    let h = both (leb (reach G + G .scale - 1) (lift G)) (ltb (2 ^ G .width * G .scale) modulus) e in
     record { sums = leb-true _ _ (h .0); claims = ltb-true _ _ (h .1) }
 
-pub half-of : {G : Setting} {half : ℕ} → Numbers G → half ≡ powerOfTwo (G .width - 1) → Half G half
-half-of {G} {half} numbers e =
-    let power : half ≡ 2 ^ (G .width - 1) = e ∙ power-within (G .width - 1) (omega arith) in
-    let more : G .width ≡ suc (G .width - 1) = omega arith in
-    let small : 2 ^ (G .width - 1) ≤ 2 ^ 29 = pow-mono {j = 29} (omega arith) in
-    record { power = power; small = rw power small; double = omega (arith, pow-suc 2 (G .width - 1), ap (λ n. 2 ^ n) more) }
+pub record Within (G : Setting) : Type 0 where
+  pub sizes : Sizes G
+  pub numbers : Numbers G
+  pub fitted : Fitted G
 
-pub fit-products : {G : Setting} {half : ℕ} → Sizes G → Numbers G → half ≡ powerOfTwo (G .width - 1) → FitProducts G half
-fit-products {G} {half} sizes numbers e =
-    let bound : G .bound ≤ 32_767 = omega arith in
-    let square : G .bound * G .bound ≤ 32_767 * 32_767 = mul-le-mul bound bound in
-    let h : Half G half = half-of numbers e in
+pub limits-of : (G : Setting) → AllHold (settingTests G) → Within G
+unfolding settingTests
+limits-of G h =
     record {
-      half-is = h;
-      square = square;
-      sums = mul-le-mul (sizes .inner .1) square;
-      shifted = mul-le-mul (h .small) (numbers .scale .1);
+      sizes = sizes-of G (first-holds h);
+      numbers = numbers-of G (first-holds (rest-hold h));
+      fitted = fitted-of G (first-holds (rest-hold (rest-hold h)));
     }
 
-pub fits-by-products : (G : Setting) {half : ℕ} → FitProducts G half
-    → (leb (G .inner * (G .bound * G .bound) + G .scale - 1) (half * G .scale) && ltb (2 * half * G .scale) (2 ^ 31 - 1)) ≡ fits G
-unfolding fits
-fits-by-products G {half} p =
-    rw (← p .half-is .power, ← p .half-is .double, modulus-is)
+pub setting-numbered : (G : Setting) → Numbered 1 3 (settingTests G)
+unfolding settingTests Numbered
+setting-numbered G = (omega arith, (omega arith, (omega arith, tt)))
 
--- three tests in order: the number is 0 only where each holds
-tests-passed : (a b c : Bool) → _≡_ {A = ℕ} (unless a 1 (unless b 2 (unless c 3 0))) 0 → (a ≡ true) × (b ≡ true) × (c ≡ true)
-tests-passed true true true e = (refl, refl, refl)
-tests-passed true true false e = absurd (omega arith)
-tests-passed true false c e = absurd (omega arith)
-tests-passed false b c e = absurd (omega arith)
+pub half-small : {G : Setting} → Numbers G → halfRange G ≤ 2 ^ 29
+half-small {G} numbers = pow-mono {j = 29} (omega arith)
 
-pub passed-setting : (G : Setting) → settingNumber G ≡ 0 → Sizes G × Numbers G × Fitted G
-unfolding settingNumber
-passed-setting G e =
-    let h = tests-passed (sizesWithin G) (numbersWithin G) (fits G) e in
-    (sizes-of G (h .0), numbers-of G (h .1), fitted-of G (h .2))
+pub half-double : {G : Setting} → Numbers G → 2 * halfRange G ≡ 2 ^ G .width
+half-double {G} numbers =
+    let more : G .width ≡ suc (G .width - 1) = omega arith in
+    omega (arith, pow-suc 2 (G .width - 1), ap (λ n. 2 ^ n) more)
+
+pub fit-products : {G : Setting} → Sizes G → Numbers G → FitProducts G
+fit-products {G} sizes numbers =
+    let bound : G .bound ≤ 32_767 = omega arith in
+    let square : G .bound * G .bound ≤ 32_767 * 32_767 = mul-le-mul bound bound in
+    record {
+      square = square;
+      sums = mul-le-mul (sizes .inner .1) square;
+      lifted = mul-le-mul (half-small numbers) (numbers .scale .1);
+    }
+
+pub lift-small : {G : Setting} → Numbers G → Fitted G → 2 * lift G < modulus
+lift-small {G} numbers fitted = omega (arith, ap (λ n. n * G .scale) (half-double numbers), fitted .claims)
+
+-- total calls
+
+unfoldable pub clamped : Setting → Setting
+clamped G =
+    record {
+      rows = min (G .rows) mostRows;
+      inner = min (G .inner) mostInner;
+      columns = min (G .columns) mostColumns;
+      vectors = G .vectors;
+      scale = min (G .scale) 65_536;
+      bound = G .bound;
+      width = min (G .width) 30;
+    }
+
+pub clamped-same : {G : Setting} → Sizes G → Numbers G → clamped G ≡ G
+unfolding clamped
+clamped-same {G} sizes numbers =
+    rw (
+      min-eq-left (sizes .rows .1),
+      min-eq-left (sizes .inner .1),
+      min-eq-left (sizes .columns .1),
+      min-eq-left (numbers .scale .1),
+      min-eq-left (numbers .width .1),
+    )
+
+pub record ClampedSizes (G : Setting) : Type 0 where
+  pub entries-A : clamped G .rows * clamped G .inner ≤ mostRows * mostInner
+  pub entries-B : clamped G .inner * clamped G .columns ≤ mostInner * mostColumns
+  pub claims : clamped G .rows * clamped G .columns ≤ mostRows * mostColumns
+
+pub clamped-sizes : (G : Setting) → ClampedSizes G
+unfolding clamped
+clamped-sizes G =
+    record {
+      entries-A = mul-le-mul (min-le-right (G .rows) mostRows) (min-le-right (G .inner) mostInner);
+      entries-B = mul-le-mul (min-le-right (G .inner) mostInner) (min-le-right (G .columns) mostColumns);
+      claims = mul-le-mul (min-le-right (G .rows) mostRows) (min-le-right (G .columns) mostColumns);
+    }

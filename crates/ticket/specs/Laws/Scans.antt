@@ -1,12 +1,14 @@
--- Scans: the first of several numbers that is not 0 makes the answer, over the rule `firstRefusal`.
+-- Scans: the first of several places at which a test fails makes the answer, over the rules `scan` and `firstRefusal`.
 --
+--   scan-none       where the test holds everywhere, the answer of a scan is that of no failure
+--   scan-is         it is that of place i, where the test fails there and holds before it
 --   refusal-none    where all numbers are 0, there is no refusal
 --   refusal-is      the refusal is at i, where the number there is not 0 and those before it are
 --   FirstOther n f i, zeros-or-first   either all of n numbers are 0, or there is a first that is not
 --   after-passed, after-refused   an answer after an earlier one that passes, and after one that refuses
 --   refusal-cong    equal numbers give equal answers
 --   refusal-split   a scan of m + n numbers is a scan of m, then one of the n after them
-use Rattle.ticket.specs.Rules.{firstRefusal, after, refusal}
+use Rattle.ticket.specs.Rules.{scan, firstRefusal, after, refusal}
 use Rattle.ticket.specs.Laws.First.{first-none, first-is}
 use Rattle.ticket.specs.declared.Answer.{Answer}
 use Prim.Native.Nat.{ℕ, zero, suc, _+_, _-_, _<_}
@@ -14,17 +16,27 @@ use native.Mathlib.Omega.{arith}
 use native.Mathlib.Decide.{ℕ-discrete, decLe}
 use mathlib.Core.Logic.{_⊎_, inl, inr, ⊎-elim}
 use mathlib.Core.Path.{_≡_, refl, sym, ap, _∙_}
+use mathlib.Core.Bool.{Bool, true, false}
 use borrow.Author.Tests.{eq-eqb, ne-eqb}
+
+pub scan-none : (n : ℕ) (f : ℕ → Bool) (failed : ℕ → Answer) (passed : Answer) → ((k : ℕ) → k < n → f k ≡ true)
+    → scan n f failed passed ≡ passed
+unfolding scan
+scan-none n f failed passed h = rw (first-none n f h, eq-eqb n n refl)
+
+pub scan-is : (n i : ℕ) (f : ℕ → Bool) (failed : ℕ → Answer) (passed : Answer) → i < n → ((k : ℕ) → k < i → f k ≡ true) → f i ≡ false
+    → scan n f failed passed ≡ failed i
+unfolding scan
+scan-is n i f failed passed l h e = rw (first-is n i f l h e, ne-eqb i n (λ d. omega arith))
 
 pub refusal-none : (start n : ℕ) (f : ℕ → ℕ) → ((k : ℕ) → k < n → f k ≡ 0) → firstRefusal start n f ≡ refusal 0 0
 unfolding firstRefusal
-refusal-none start n f h = rw (first-none n _ (λ k l. eq-eqb (f k) 0 (h k l)), eq-eqb n n refl)
+refusal-none start n f h = scan-none n _ _ _ (λ k l. eq-eqb (f k) 0 (h k l))
 
 pub refusal-is : (start n i : ℕ) (f : ℕ → ℕ) → i < n → ((k : ℕ) → k < i → f k ≡ 0) → (f i ≡ 0 → ⊥)
     → firstRefusal start n f ≡ refusal (f i) (start + i)
 unfolding firstRefusal
-refusal-is start n i f l h e =
-    rw (first-is n i _ l (λ k m. eq-eqb (f k) 0 (h k m)) (ne-eqb (f i) 0 e), ne-eqb i n (λ d. omega arith))
+refusal-is start n i f l h e = scan-is n i _ _ _ l (λ k m. eq-eqb (f k) 0 (h k m)) (ne-eqb (f i) 0 e)
 
 pub record FirstOther (n : ℕ) (f : ℕ → ℕ) (i : ℕ) : Type 0 where
   pub within : i < n

@@ -1,0 +1,64 @@
+-- Tests in order: whether all hold, or which is the first that fails, over the rule `firstFailed`.
+--
+--   AllHold l          all tests of l hold
+--   Failed l c         the first test of l that fails has the number c
+--   hold-or-failed     one of the two is so
+--   holding-number     where all hold, the number is 0
+--   failed-number      else it is that of the first that fails
+--   Numbered a b l     the numbers of the tests are from a to b
+--   failed-within      so is then the number of the first that fails
+--   tests-hold         all hold, where the number is 0 and that of no test is
+--   first-holds, rest-hold   the first of several tests that all hold does, and so do the others
+use Prim.Native.Nat.{ℕ, _≤_}
+use native.Mathlib.Omega.{arith}
+use mathlib.Core.Logic.{_⊎_, inl, inr, ⊎-elim}
+use mathlib.Core.Path.{_≡_, refl}
+use mathlib.Core.Bool.{true, false}
+use mathlib.Core.List.{List, [], _∷_}
+use Rattle.ticket.specs.Rules.{Test, firstFailed}
+use Rattle.ticket.specs.Laws.First.{true-or-false}
+
+pub data AllHold : List Test → Type 0 where
+  none : AllHold []
+  one : {T : Test} {rest : List Test} → T .holds ≡ true → AllHold rest → AllHold (T ∷ rest)
+
+pub data Failed : List Test → ℕ → Type 0 where
+  here : {T : Test} {rest : List Test} → T .holds ≡ false → Failed (T ∷ rest) (T .number)
+  later : {T : Test} {rest : List Test} {c : ℕ} → T .holds ≡ true → Failed rest c → Failed (T ∷ rest) c
+
+unfoldable pub Numbered : ℕ → ℕ → List Test → Type 0
+Numbered low high [] = Unit
+Numbered low high (T ∷ rest) = ((low ≤ T .number) × (T .number ≤ high)) × Numbered low high rest
+
+pub first-holds : {T : Test} {rest : List Test} → AllHold (T ∷ rest) → T .holds ≡ true
+first-holds (one h r) = h
+
+pub rest-hold : {T : Test} {rest : List Test} → AllHold (T ∷ rest) → AllHold rest
+rest-hold (one h r) = r
+
+pub hold-or-failed : (l : List Test) → AllHold l ⊎ ((c : ℕ) × Failed l c)
+hold-or-failed [] = inl none
+hold-or-failed (T ∷ rest) =
+    ⊎-elim
+    (λ h. ⊎-elim (λ r. inl (one h r)) (λ f. inr (f .0, later h (f .1))) (hold-or-failed rest))
+    (λ e. inr (T .number, here e))
+    (true-or-false (T .holds))
+
+pub holding-number : {l : List Test} → AllHold l → firstFailed l ≡ 0
+unfolding firstFailed
+holding-number none = refl
+holding-number (one h r) = rw h (holding-number r)
+
+pub failed-number : {l : List Test} {c : ℕ} → Failed l c → firstFailed l ≡ c
+unfolding firstFailed
+failed-number (here e) = rw e
+failed-number (later h f) = rw h (failed-number f)
+
+pub failed-within : {low high c : ℕ} (l : List Test) → Numbered low high l → Failed l c → (low ≤ c) × (c ≤ high)
+unfolding Numbered
+failed-within (T ∷ rest) numbered (here e) = numbered .0
+failed-within (T ∷ rest) numbered (later h f) = failed-within rest (numbered .1) f
+
+pub tests-hold : (high : ℕ) (l : List Test) → Numbered 1 high l → firstFailed l ≡ 0 → AllHold l
+tests-hold high l numbered e =
+    ⊎-elim (λ h. h) (λ f. absurd (omega (arith, failed-within l numbered (f .1), failed-number (f .1)))) (hold-or-failed l)
