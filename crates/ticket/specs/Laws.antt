@@ -6,3 +6,11 @@ pub mod Runs
 pub mod Limits
 pub mod All
 pub mod Layout
+pub mod Forms
+pub mod Passing
+pub mod Parts
+pub mod Passes
+pub mod Refusals
+pub mod Lifts
+pub mod Differences
+pub mod Decodes

@@ -10,7 +10,7 @@
 --   Test, test b c       a test: whether it holds, and the number of the answer where it does not
 --   firstFailed l        the number of the first test of l that fails, 0 where all hold
 --   within l h n         n is from l to h
---   mostRows, mostInner, mostColumns, mostVectors   the largest sizes
+--   mostRows, mostInner, mostColumns, mostVectors, mostScale, mostBound, mostWidth   the limits
 --   reach G              the largest size of an exact sum
 --   halfRange G          half of the quotients' range
 --   lift G               that times the scale: with it added, neither a sum nor what a claim puts for it is negative
@@ -113,6 +113,15 @@ mostColumns = 32
 abbrev pub mostVectors : ℕ
 mostVectors = 8
 
+abbrev pub mostScale : ℕ
+mostScale = 65_536
+
+abbrev pub mostBound : ℕ
+mostBound = 32_767
+
+abbrev pub mostWidth : ℕ
+mostWidth = 30
+
 abbrev pub reach : Setting → ℕ
 reach G = G .inner * (G .bound * G .bound)
 
@@ -130,7 +139,7 @@ sizesWithin G =
     && within 1 mostVectors (G .vectors)
 
 unfoldable pub numbersWithin : Setting → Bool
-numbersWithin G = within 2 65_536 (G .scale) && within 1 32_767 (G .bound) && within 1 30 (G .width)
+numbersWithin G = within 2 mostScale (G .scale) && within 1 mostBound (G .bound) && within 1 mostWidth (G .width)
 
 unfoldable pub fits : Setting → Bool
 fits G = leb (reach G + G .scale - 1) (lift G) && ltb (2 ^ G .width * G .scale) modulus

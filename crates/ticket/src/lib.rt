@@ -1,11 +1,19 @@
 // Reading a ticket: the certificate of one layer's matrix product, with both operands and the quotients and remainders that the
 // reader claims. Every call takes every value of its parameters; the rules that the contracts cite are in specs/Rules.antt.
+mod decode;
+mod parts;
 mod records;
 mod setting;
 
-pub use records::RECORD;
+pub use decode::lifted_claims;
+pub use decode::narrow_entries;
+pub use decode::shifted_entries;
+pub use parts::RECORD;
+pub use parts::part;
+pub use parts::value;
+pub use parts::word;
 pub use records::read;
-pub use records::word;
+pub use setting::PartNumber;
 pub use setting::Setting;
 
 // What a call says: a number of the published table (0: nothing is wrong), its place, and for a caught ticket, one that Freivalds'

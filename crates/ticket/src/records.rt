@@ -2,20 +2,23 @@
 ghost use mathlib.Core.Path.{_≡_};
 ghost use Prim.Native.Nat.{_+_, _*_, _^_, _≤_, _<_};
 ghost use lib.ListN.{length};
-ghost use Rattle.ticket.specs.Rules.{after, reading, recordsReading, recordBytes, formed, valueAt};
-ghost use Rattle.ticket.specs.Laws.Limits.{Counts, Numbers};
+ghost use Rattle.ticket.specs.Rules.{after, reading, recordBytes, records, recordNumber, firstRefusal, formed};
+ghost use Rattle.ticket.specs.Laws.Limits.{Sizes, Numbers};
 ghost use Rattle.ticket.specs.Laws.All.{all};
-ghost use Rattle.ticket.specs.Laws.Forms.{from, partAnswer, testedAt, Holds, Ranged, Within};
+ghost use Rattle.ticket.specs.Laws.Forms.{formOf, partAnswer, testedAt, Holds, Ranged};
 ghost use Rattle.ticket.specs.Laws.Passing.{passing, passingAt, rowPassing};
+ghost use Rattle.ticket.specs.Laws.Parts.{PartReady, ReadReady, partRead};
 use crate::Answer;
+use crate::PartNumber;
 use crate::Setting;
+use crate::parts::RECORD;
+use crate::parts::part;
+use crate::parts::value_at;
+use crate::parts::word;
 use residue::Residue;
 
-// The bytes of a record: kind, a zero byte, row, column, and four bytes of value.
-pub const RECORD: usize = 8;
-
 // Rows of at most so many records are not worth the pass without branches.
-const FEW: u8 = 2;
+const SHORT_ROW: u8 = 2;
 
 // What the records of a part have to be. A value is in range where, shift added modulo p, it is below limit; outside is the
 // number of the answer for one that is not.
@@ -41,26 +44,7 @@ pub fn read(setting: Setting, ticket: &[u8]) -> Answer
             products: 0,
         };
     }
-    read_records(setting, ticket)
-}
-
-// The little-endian number of four bytes.
-pub fn word(a: u8, b: u8, c: u8, d: u8) -> u32
-    ensures { λ r. ⌜ r ≡ a + 256 * b + 65536 * c + 16777216 * d ⌝ }
-{
-    (a as u32) + 256 * (b as u32) + 65536 * (c as u32) + 16_777_216 * (d as u32)
-}
-
-// The answer of the tests 4 to 9, where the setting passes the tests before them.
-fn read_records(setting: Setting, ticket: &[u8]) -> Answer
-    requires { ⌜ Counts setting × Numbers setting ⌝ }
-    ensures { λ r. ⌜ r ≡ recordsReading setting (now (ticket .entry)) ⌝ }
-{
-    let start_b = setting.rows * setting.inner;
-    let start_q = start_b + setting.inner * setting.columns;
-    let start_r = start_q + setting.rows * setting.columns;
-    let end = start_r + setting.rows * setting.columns;
-    if ticket.len() != RECORD * (end as usize) {
+    if ticket.len() != setting.length() {
         return Answer {
             number: 4,
             place: 0,
@@ -68,66 +52,84 @@ fn read_records(setting: Setting, ticket: &[u8]) -> Answer
             products: 0,
         };
     }
+    read_records(setting, ticket)
+}
+
+// The answer of the tests 5 to 9, where setting and length pass the tests before them: part after part.
+fn read_records(setting: Setting, ticket: &[u8]) -> Answer
+    requires { ⌜ ReadReady setting (now ticket) ⌝ }
+    ensures { λ r. ⌜ r ≡ firstRefusal 0 (records setting) (recordNumber setting (now (ticket .entry))) ⌝ }
+{
+    let a = read_part(Answer::PASSED, setting, ticket, PartNumber::A);
+    let b = read_part(a, setting, ticket, PartNumber::B);
+    let quotients = read_part(b, setting, ticket, PartNumber::QUOTIENTS);
+    read_part(quotients, setting, ticket, PartNumber::REMAINDERS)
+}
+
+// The earlier answer, where it refuses; else that of a part. The tests are made without a branch first; one by one, for the first
+// that fails, only where some record fails.
+fn read_part(earlier: Answer, setting: Setting, ticket: &[u8], which: PartNumber) -> Answer
+    requires { ⌜ PartReady setting (now ticket) (which .0) ⌝ }
+    ensures { λ r. ⌜ r ≡ after earlier (partRead setting (now (ticket .entry)) (which .0)) ⌝ }
+{
+    if earlier.number != 0 {
+        return earlier;
+    }
+    let form = form_of(setting, which);
+    let records = part(setting, ticket, which);
+    if (SHORT_ROW < form.columns) && passes(records, form) {
+        return Answer::PASSED;
+    }
+    first_refusal(records, form, setting.start(which))
+}
+
+// What the records of a part have to be.
+fn form_of(setting: Setting, which: PartNumber) -> Form
+    requires { ⌜ Sizes setting × Numbers setting ⌝ }
+    ensures { λ r. ⌜ r ≡ formOf setting (which .0) ⌝ }
+{
     let rows = setting.rows as u8;
     let inner = setting.inner as u8;
     let columns = setting.columns as u8;
-    let entries = 2 * setting.bound + 1;
-    let half = Residue::power_of_two(setting.width - 1).0;
-    let range = 2 * half;
-
-    let form_a = Form {
-        kind: 1,
-        rows,
-        columns: inner,
-        shift: setting.bound,
-        limit: entries,
-        outside: 7,
-    };
-    let read_a = read_part(Answer::PASSED, ticket, form_a, 0);
-    let form_b = Form {
-        kind: 2,
-        rows: inner,
-        columns,
-        shift: setting.bound,
-        limit: entries,
-        outside: 7,
-    };
-    let read_b = read_part(read_a, ticket, form_b, start_b);
-    let form_q = Form {
-        kind: 3,
-        rows,
-        columns,
-        shift: half,
-        limit: range,
-        outside: 8,
-    };
-    let read_q = read_part(read_b, ticket, form_q, start_q);
-    let form_r = Form {
+    let half = setting.half().0;
+    if which.0 == 0 {
+        return Form {
+            kind: 1,
+            rows,
+            columns: inner,
+            shift: setting.bound,
+            limit: 2 * setting.bound + 1,
+            outside: 7,
+        };
+    }
+    if which.0 == 1 {
+        return Form {
+            kind: 2,
+            rows: inner,
+            columns,
+            shift: setting.bound,
+            limit: 2 * setting.bound + 1,
+            outside: 7,
+        };
+    }
+    if which.0 == 2 {
+        return Form {
+            kind: 3,
+            rows,
+            columns,
+            shift: half,
+            limit: 2 * half,
+            outside: 8,
+        };
+    }
+    Form {
         kind: 4,
         rows,
         columns,
         shift: 0,
         limit: setting.scale,
         outside: 9,
-    };
-    read_part(read_q, ticket, form_r, start_r)
-}
-
-// The earlier answer, where it refuses; else that of the part from record start on. The tests are made without a branch
-// first; one by one, for the first that fails, only where some record fails.
-fn read_part(earlier: Answer, ticket: &[u8], form: Form, start: u32) -> Answer
-    requires { ⌜ Within (now ticket) form start ⌝ }
-    ensures { λ r. ⌜ r ≡ after earlier (partAnswer form start (from (recordBytes * start) (now (ticket .entry)))) ⌝ }
-{
-    if earlier.number != 0 {
-        return earlier;
     }
-    let at = RECORD * (start as usize);
-    let records = &ticket[at..];
-    if (FEW < form.columns) && passes(records, form) {
-        return Answer::PASSED;
-    }
-    first_refusal(records, form, start)
 }
 
 // Whether all records of a part pass.
@@ -169,10 +171,11 @@ fn record_passes(records: &[u8], form: Form, i: usize, row: u8, column: u8) -> b
     ensures { λ r. ⌜ r ≡ passingAt (now (records .entry)) form i row column ⌝ }
 {
     let low = form.limit - form.shift;
-    let size = Residue::MODULUS - form.limit;
+    let size = Residue::modulus() - form.limit;
+    let value = value_at(records, i);
     formed(records, i, form.kind, row, column)
-        & (value(records, i) < Residue::MODULUS)
-        & (size <= std::num::wrapping_sub_u32(value(records, i), low))
+        & value.is_least()
+        & (size <= std::num::wrapping_sub_u32(value.0, low))
 }
 
 // The answer of a part, the first record of which is record start of the ticket.
@@ -213,11 +216,11 @@ fn record_number(records: &[u8], form: Form, i: u32, row: u8, column: u8) -> u32
     if !formed(records, i as usize, form.kind, row, column) {
         return 5;
     }
-    let value = value(records, i as usize);
-    if Residue::MODULUS <= value {
+    let value = value_at(records, i as usize);
+    if !value.is_least() {
         return 6;
     }
-    let shifted = Residue(value).add(Residue(form.shift)).0;
+    let shifted = value.add(Residue(form.shift)).0;
     if form.limit <= shifted {
         return form.outside;
     }
@@ -230,18 +233,6 @@ fn formed(records: &[u8], i: usize, kind: u8, row: u8, column: u8) -> bool
     ensures { λ r. ⌜ r ≡ formed (now (records .entry)) i kind row column ⌝ }
 {
     let at = RECORD * i;
-    let end = at + RECORD;
-    let record = &records[at..end];
+    let record = &records[at..at + RECORD];
     word(record[0], record[1], record[2], record[3]) == word(kind, 0, row, column)
-}
-
-// The value of record i.
-fn value(records: &[u8], i: usize) -> u32
-    requires { ⌜ recordBytes * i + recordBytes ≤ length (now records) ⌝ }
-    ensures { λ r. ⌜ r ≡ valueAt (now (records .entry)) i ⌝ }
-{
-    let at = RECORD * i;
-    let end = at + RECORD;
-    let record = &records[at..end];
-    word(record[4], record[5], record[6], record[7])
 }

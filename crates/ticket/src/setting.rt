@@ -1,7 +1,10 @@
-// The setting and its tests, 1 to 3.
+// The setting: its tests, 1 to 3, and what it says of a ticket. The calls that say this take every setting; of one beyond its
+// limits they say what the limits come to, so that nothing wraps.
 ghost use mathlib.Core.Path.{_≡_};
-ghost use Rattle.ticket.specs.Rules.{settingNumber, sizesWithin, numbersWithin, fits, within};
-ghost use Rattle.ticket.specs.Laws.Limits.{Sizes, Numbers};
+ghost use Prim.Native.Nat.{min};
+ghost use Rattle.ticket.specs.Rules.{settingNumber, sizesWithin, numbersWithin, fits, within, part, partSize, start, ticketLength, halfRange, lift, sumProducts};
+ghost use Rattle.ticket.specs.Laws.Limits.{Sizes, Numbers, clamped};
+use crate::parts::RECORD;
 use residue::Residue;
 
 // The public parameters of a layer, handed in by the buyer. A is rows by inner, B is inner by columns.
@@ -20,8 +23,24 @@ pub struct Setting {
     pub width: u32,
 }
 
+// Which part of a ticket, by its number in the ticket's order.
+pub struct PartNumber(pub u32);
+
+impl PartNumber {
+    pub const A: PartNumber = PartNumber(0);
+
+    pub const B: PartNumber = PartNumber(1);
+
+    pub const QUOTIENTS: PartNumber = PartNumber(2);
+
+    pub const REMAINDERS: PartNumber = PartNumber(3);
+
+    // past the last part
+    const END: PartNumber = PartNumber(4);
+}
+
 impl Setting {
-    // the largest sizes
+    // the largest sizes, scale, bound and width
     pub const MOST_ROWS: u32 = 32;
 
     pub const MOST_INNER: u32 = 64;
@@ -29,6 +48,18 @@ impl Setting {
     pub const MOST_COLUMNS: u32 = 32;
 
     pub const MOST_VECTORS: u32 = 8;
+
+    const MOST_SCALE: u32 = 65_536;
+
+    const MOST_BOUND: u32 = 32_767;
+
+    const MOST_WIDTH: u32 = 30;
+
+    // the bytes of the longest ticket: as length, of the largest sizes
+    pub const LONGEST_TICKET: usize = RECORD
+        * (Setting::MOST_ROWS * Setting::MOST_INNER
+            + Setting::MOST_INNER * Setting::MOST_COLUMNS
+            + 2 * (Setting::MOST_ROWS * Setting::MOST_COLUMNS)) as usize;
 
     // The first of the tests 1, 2 and 3 that the setting fails, 0 where it passes them.
     pub fn number(self) -> u32
@@ -46,6 +77,79 @@ impl Setting {
         0
     }
 
+    // How many records a part has.
+    pub fn size(self, which: PartNumber) -> u32
+        ensures { λ r. ⌜ r ≡ partSize (part (clamped self) (which .0)) ⌝ }
+    {
+        let rows = least(self.rows, Setting::MOST_ROWS);
+        let inner = least(self.inner, Setting::MOST_INNER);
+        let columns = least(self.columns, Setting::MOST_COLUMNS);
+        if which.0 == 0 {
+            return rows * inner;
+        }
+        if which.0 == 1 {
+            return inner * columns;
+        }
+        if which.0 < 4 {
+            return rows * columns;
+        }
+        0
+    }
+
+    // The number of the first record of a part; past the last part, how many records a ticket has.
+    pub fn start(self, which: PartNumber) -> u32
+        ensures { λ r. ⌜ r ≡ start (clamped self) (which .0) ⌝ }
+    {
+        let a = self.size(PartNumber::A);
+        let b = self.size(PartNumber::B);
+        let quotients = self.size(PartNumber::QUOTIENTS);
+        if which.0 == 0 {
+            return 0;
+        }
+        if which.0 == 1 {
+            return a;
+        }
+        if which.0 == 2 {
+            return a + b;
+        }
+        if which.0 == 3 {
+            return a + b + quotients;
+        }
+        a + b + quotients + self.size(PartNumber::REMAINDERS)
+    }
+
+    // How many bytes a ticket has.
+    pub fn length(self) -> usize
+        ensures { λ r. ⌜ r ≡ ticketLength (clamped self) ⌝ }
+    {
+        RECORD * (self.start(PartNumber::END) as usize)
+    }
+
+    // Half of the quotients' range.
+    pub fn half(self) -> Residue
+        ensures { λ r. ⌜ r .0 ≡ halfRange (clamped self) ⌝ }
+    {
+        let width = least(self.width, Setting::MOST_WIDTH);
+        if width == 0 {
+            return Residue::ONE;
+        }
+        Residue::power_of_two(width - 1)
+    }
+
+    // What is added to a sum, and to what a claim puts for it, so that neither is negative.
+    pub fn lift(self) -> u64
+        ensures { λ r. ⌜ r ≡ lift (clamped self) ⌝ }
+    {
+        (self.half().0 as u64) * (least(self.scale, Setting::MOST_SCALE) as u64)
+    }
+
+    // How many products all sums take.
+    pub fn products(self) -> u32
+        ensures { λ r. ⌜ r ≡ sumProducts (clamped self) ⌝ }
+    {
+        self.size(PartNumber::A) * least(self.columns, Setting::MOST_COLUMNS)
+    }
+
     fn sizes_within(self) -> bool
         ensures { λ r. ⌜ r ≡ sizesWithin self ⌝ }
     {
@@ -58,18 +162,19 @@ impl Setting {
     fn numbers_within(self) -> bool
         ensures { λ r. ⌜ r ≡ numbersWithin self ⌝ }
     {
-        within(2, 65_536, self.scale) & within(1, 32_767, self.bound) & within(1, 30, self.width)
+        within(2, Setting::MOST_SCALE, self.scale)
+            & within(1, Setting::MOST_BOUND, self.bound)
+            & within(1, Setting::MOST_WIDTH, self.width)
     }
 
     fn fits(self) -> bool
         requires { ⌜ Sizes self × Numbers self ⌝ }
         ensures { λ r. ⌜ r ≡ fits self ⌝ }
     {
-        let scale = self.scale as u64;
         let bound = self.bound as u64;
-        let half = Residue::power_of_two(self.width - 1).0 as u64;
-        let reach = (self.inner as u64) * (bound * bound) + scale - 1;
-        (reach <= half * scale) & (2 * half * scale < Residue::MODULUS as u64)
+        let reach = (self.inner as u64) * (bound * bound) + (self.scale as u64) - 1;
+        let lift = self.lift();
+        (reach <= lift) & (2 * lift < Residue::modulus() as u64)
     }
 }
 
@@ -77,4 +182,13 @@ fn within(low: u32, high: u32, n: u32) -> bool
     ensures { λ r. ⌜ r ≡ within low high n ⌝ }
 {
     (low <= n) & (n <= high)
+}
+
+fn least(n: u32, most: u32) -> u32
+    ensures { λ r. ⌜ r ≡ min n most ⌝ }
+{
+    if most < n {
+        return most;
+    }
+    n
 }

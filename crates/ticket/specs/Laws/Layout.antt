@@ -7,6 +7,7 @@
 --   holder-at, held       the part that holds a record
 --   PartsAre G, parts-are the sizes of the parts by name, and where each starts
 --   length-is             how many bytes a ticket has
+--   longestTicket, length-most   the most bytes that a ticket within the limits has
 --   start-of-B            the part that holds B starts at byte 8 · rows · inner
 --   partBytes G t w       the bytes of part w
 --   part-bytes-long       how many they are, of a ticket that is long enough
@@ -15,7 +16,7 @@
 --   record-at             every row and column of every part is at one record number
 --   located-at            every record number is at a row and a column of a part
 --   located-once          and at no other part, row or column
---   tests-located         the tests of a record by its part, row and column
+--   locatedTests G t k w i j, tests-located   the tests of record k by its part, row and column
 --   value-in              the value in a row and a column of a part is that of its record
 use Prim.Native.Nat.{ℕ, zero, suc, _+_, _-_, _*_, _/_, _%_, _≤_, _<_}
 use native.Mathlib.Nat.{mod-lt, div-add-mod', div-lt-iff-lt-mul}
@@ -32,7 +33,8 @@ use lib.ListN.{length, getD, take, drop, length-drop}
 use lib.Seq.{take-all, getD-drop, getD-take, length-take-le}
 use Rattle.residue.specs.Rules.{modulus}
 use Rattle.ticket.specs.declared.setting.Setting.{Setting}
-use Rattle.ticket.specs.Rules.{Test, test, Part, noPart, parts, part, partSize, count, start, records, recordBytes, ticketLength, holder, ofA, ofB, ofQuotients, ofRemainders, byteAt, valueAt, formed, partTests, recordTests, valueIn}
+use Rattle.ticket.specs.Rules.{mostRows, mostInner, mostColumns, Test, test, Part, noPart, parts, part, partSize, count, start, records, recordBytes, ticketLength, holder, ofA, ofB, ofQuotients, ofRemainders, byteAt, valueAt, formed, partTests, recordTests, valueIn}
+use Rattle.ticket.specs.Laws.Limits.{Counts}
 
 -- any list of parts
 
@@ -166,6 +168,12 @@ length-is G = ap (λ n. 8 * n) (parts-are G .all)
 pub start-of-B : (G : Setting) → recordBytes * start G ofB ≡ 8 * (G .rows * G .inner)
 start-of-B G = ap (λ n. 8 * n) (parts-are G .start-B)
 
+abbrev pub longestTicket : ℕ
+longestTicket = recordBytes * (mostRows * mostInner + mostInner * mostColumns + 2 * (mostRows * mostColumns))
+
+pub length-most : {G : Setting} → Counts G → ticketLength G ≤ longestTicket
+length-most {G} counts = omega (arith, length-is G)
+
 -- the bytes of a part
 
 unfoldable pub partBytes : Setting → List ℕ → ℕ → List ℕ
@@ -224,7 +232,7 @@ record-at G w row column l m =
     )
 
 pub located-at : (G : Setting) (k : ℕ) → k < records G
-    → (w : ℕ) × (w < length (parts G)) × Located G k w ((k - start G w) / part G w .columns) ((k - start G w) % part G w .columns)
+    → (w : ℕ) × Held G k w × Located G k w ((k - start G w) / part G w .columns) ((k - start G w) % part G w .columns)
 located-at G k l =
     let w = holder (parts G) k in
     let P = part G w in
@@ -236,7 +244,7 @@ located-at G k l =
       | no lt ↦ let none : P .columns ≡ 0 = omega arith in absurd (omega (arith, ap (λ n. P .rows * n) none))
     ] in (
       w,
-      h .within,
+      h,
       record {
         in-part = refl;
         place = omega (arith, div-add-mod' i (P .columns), h .from);
@@ -258,12 +266,15 @@ located-once {G} {k} {w} {w'} {row} {row'} {column} {column'} a b =
       sym (digits-mod row inside) ∙ ap (λ n. n % P .columns) index ∙ digits-mod row' (b .column-within),
     )
 
-pub tests-located : {G : Setting} (t : List ℕ) {k w row column : ℕ} → Located G k w row column
-    → recordTests G t k
-    ≡ test (formed t k (part G w .kind) row column) 5
+abbrev pub locatedTests : Setting → List ℕ → ℕ → ℕ → ℕ → ℕ → List Test
+locatedTests G t k w row column =
+    test (formed t k (part G w .kind) row column) 5
     ∷ test (ltb (valueAt t k) modulus) 6
     ∷ test (part G w .range (valueAt t k)) (part G w .outside)
     ∷ []
+
+pub tests-located : {G : Setting} (t : List ℕ) {k w row column : ℕ} → Located G k w row column
+    → recordTests G t k ≡ locatedTests G t k w row column
 unfolding recordTests partTests
 tests-located {G} t {k} {w} {row} {column} at =
     let index : k - start G w ≡ row * part G w .columns + column = omega (arith, at .place) in

@@ -24,7 +24,7 @@ use lib.Dec.{leb, ltb}
 use lib.Pow.{pow-mono}
 use Rattle.residue.specs.Rules.{modulus}
 use Rattle.ticket.specs.declared.setting.Setting.{Setting}
-use Rattle.ticket.specs.Rules.{within, mostRows, mostInner, mostColumns, mostVectors, reach, halfRange, lift, sizesWithin, numbersWithin, fits, settingTests, sumProducts}
+use Rattle.ticket.specs.Rules.{within, mostRows, mostInner, mostColumns, mostVectors, mostScale, mostBound, mostWidth, reach, halfRange, lift, sizesWithin, numbersWithin, fits, settingTests, sumProducts}
 use Rattle.ticket.specs.Laws.Tests.{AllHold, first-holds, rest-hold, Numbered}
 
 pub both : (a b : Bool) → (a && b) ≡ true → (a ≡ true) × (b ≡ true)
@@ -42,9 +42,9 @@ pub record Sizes (G : Setting) : Type 0 where
   pub vectors : (1 ≤ G .vectors) × (G .vectors ≤ mostVectors)
 
 pub record Numbers (G : Setting) : Type 0 where
-  pub scale : (2 ≤ G .scale) × (G .scale ≤ 65_536)
-  pub bound : (1 ≤ G .bound) × (G .bound ≤ 32_767)
-  pub width : (1 ≤ G .width) × (G .width ≤ 30)
+  pub scale : (2 ≤ G .scale) × (G .scale ≤ mostScale)
+  pub bound : (1 ≤ G .bound) × (G .bound ≤ mostBound)
+  pub width : (1 ≤ G .width) × (G .width ≤ mostWidth)
 
 pub record Fitted (G : Setting) : Type 0 where
   pub sums : reach G + G .scale - 1 ≤ lift G
@@ -52,9 +52,9 @@ pub record Fitted (G : Setting) : Type 0 where
 
 -- the products of the test of the fit: none is large
 pub record FitProducts (G : Setting) : Type 0 where
-  pub square : G .bound * G .bound ≤ 32_767 * 32_767
-  pub sums : reach G ≤ mostInner * (32_767 * 32_767)
-  pub lifted : lift G ≤ 2 ^ 29 * 65_536
+  pub square : G .bound * G .bound ≤ mostBound * mostBound
+  pub sums : reach G ≤ mostInner * (mostBound * mostBound)
+  pub lifted : lift G ≤ 2 ^ 29 * mostScale
 
 -- the records of A, of B and of the claims, and the numbers of a challenge list: none are many
 pub record Counts (G : Setting) : Type 0 where
@@ -92,11 +92,11 @@ sizes-of G e =
 numbers-of : (G : Setting) → numbersWithin G ≡ true → Numbers G
 unfolding numbersWithin
 numbers-of G e =
-    let h = both (within 2 65_536 (G .scale) && within 1 32_767 (G .bound)) (within 1 30 (G .width)) e in
-    let k = both (within 2 65_536 (G .scale)) (within 1 32_767 (G .bound)) (h .0) in
+    let h = both (within 2 mostScale (G .scale) && within 1 mostBound (G .bound)) (within 1 mostWidth (G .width)) e in
+    let k = both (within 2 mostScale (G .scale)) (within 1 mostBound (G .bound)) (h .0) in
     record {
-      scale = within-both 2 65_536 (G .scale) (k .0);
-      bound = within-both 1 32_767 (G .bound) (k .1);
+      scale = within-both 2 mostScale (G .scale) (k .0);
+      bound = within-both 1 mostBound (G .bound) (k .1);
       width = within-both 1 30 (G .width) (h .1);
     }
 
@@ -134,8 +134,8 @@ half-double {G} numbers =
 
 pub fit-products : {G : Setting} → Sizes G → Numbers G → FitProducts G
 fit-products {G} sizes numbers =
-    let bound : G .bound ≤ 32_767 = omega arith in
-    let square : G .bound * G .bound ≤ 32_767 * 32_767 = mul-le-mul bound bound in
+    let bound : G .bound ≤ mostBound = omega arith in
+    let square : G .bound * G .bound ≤ mostBound * mostBound = mul-le-mul bound bound in
     record {
       square = square;
       sums = mul-le-mul (sizes .inner .1) square;
@@ -154,9 +154,9 @@ clamped G =
       inner = min (G .inner) mostInner;
       columns = min (G .columns) mostColumns;
       vectors = G .vectors;
-      scale = min (G .scale) 65_536;
+      scale = min (G .scale) mostScale;
       bound = G .bound;
-      width = min (G .width) 30;
+      width = min (G .width) mostWidth;
     }
 
 pub clamped-same : {G : Setting} → Sizes G → Numbers G → clamped G ≡ G

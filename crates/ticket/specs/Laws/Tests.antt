@@ -59,6 +59,6 @@ unfolding Numbered
 failed-within (T ∷ rest) numbered (here e) = numbered .0
 failed-within (T ∷ rest) numbered (later h f) = failed-within rest (numbered .1) f
 
-pub tests-hold : (high : ℕ) (l : List Test) → Numbered 1 high l → firstFailed l ≡ 0 → AllHold l
-tests-hold high l numbered e =
+pub tests-hold : (low high : ℕ) (l : List Test) → 1 ≤ low → Numbered low high l → firstFailed l ≡ 0 → AllHold l
+tests-hold low high l above numbered e =
     ⊎-elim (λ h. h) (λ f. absurd (omega (arith, failed-within l numbered (f .1), failed-number (f .1)))) (hold-or-failed l)

@@ -1,15 +1,12 @@
 use borrow.Author.Needs.{needs}
-use native.Mathlib.Omega.{arith}
-use mathlib.Core.Path.{_∙_}
-use Rattle.ticket.specs.Laws.Forms.{first-word, header-formed}
 use Rattle.ticket.proofs.records.formed.Statement.{statement}
 use Rattle.ticket.proofs.records.formed.Tie as tie
 
 mul-at : tie.Need-mul-at
 mul-at c = search needs
 
-add-end : tie.Need-add-end
-add-end c = search needs
+add-record : tie.Need-add-record
+add-record c = search needs
 
 sub-record : tie.Need-sub-record
 sub-record c = search needs
@@ -39,15 +36,14 @@ word-requires-2 : tie.Need-word-requires-2
 word-requires-2 c κs = search needs
 
 returns : tie.Need-returns
-returns c = header-formed (c .before .before .before .before .before .before .before .before .args .records .now) (c .before .before .before .before .before .before .before .before .args .i) (c .before .word .ensures ∙ first-word (c .before .before .before .before .before .before .before .before .args .records .now) (c .before .before .before .before .before .before .before .before .args .i)) (c .word2 .ensures)
-    (λ k. omega (arith, c .before .before .before .before .before .before .before .shared-slice-known .given k)) (omega arith) (omega arith) (omega arith)
+returns c = ?
 
 pub formed-spec : {M : Type 1} → statement M
 formed-spec =
     tie.close
     (tie.spec
     mul-at
-    add-end
+    add-record
     sub-record
     part-record-start
     part-record-end

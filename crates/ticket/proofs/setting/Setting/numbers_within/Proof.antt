@@ -1,5 +1,4 @@
 use borrow.Author.Needs.{needs}
-use Rattle.ticket.specs.Rules.{numbersWithin}
 use Rattle.ticket.proofs.setting.Setting.numbers_within.Statement.{statement}
 use Rattle.ticket.proofs.setting.Setting.numbers_within.Tie as tie
 
@@ -13,8 +12,7 @@ within-requires-3 : tie.Need-within-requires-3
 within-requires-3 c κs = search needs
 
 returns : tie.Need-returns
-unfolding numbersWithin
-returns c = rw (c .before .before .within .ensures, c .before .within2 .ensures, c .within3 .ensures)
+returns c = ?
 
 pub numbers-within-spec : {M : Type 1} → statement M
 numbers-within-spec =

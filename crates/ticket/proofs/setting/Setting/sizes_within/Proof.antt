@@ -1,5 +1,4 @@
 use borrow.Author.Needs.{needs}
-use Rattle.ticket.specs.Rules.{sizesWithin}
 use Rattle.ticket.proofs.setting.Setting.sizes_within.Statement.{statement}
 use Rattle.ticket.proofs.setting.Setting.sizes_within.Tie as tie
 
@@ -16,14 +15,7 @@ within-requires-4 : tie.Need-within-requires-4
 within-requires-4 c κs = search needs
 
 returns : tie.Need-returns
-unfolding sizesWithin
-returns c =
-    rw (
-      c .before .before .before .within .ensures,
-      c .before .before .within2 .ensures,
-      c .before .within3 .ensures,
-      c .within4 .ensures,
-    )
+returns c = ?
 
 pub sizes-within-spec : {M : Type 1} → statement M
 sizes-within-spec =

@@ -1,0 +1,229 @@
+-- What the records of a ticket that passes are decoded to, and what that stands for.
+--
+--   decodedCount b n, claimCount q r n   how many records of b, or of both q and r, are decoded to a list of n numbers
+--   shiftedAt b s k       the value of record k of b with s added modulo p, by one comparison
+--   narrowShift, narrowed x, narrowAt b k   2^15; the 16-bit number of a shifted value x; that of record k of b
+--   liftedAt q r h a c    the value of record c of q with h added modulo p, times a, and the value of record c of r, modulo 2^32
+--   narrowed-fits         such a number has 16 bits
+--   shifted-entry         a value with at least its entry's size added is that entry, shifted
+--   Decodable G t w b     b are the bytes of part w, decoded whole
+--   decodable             so are those that the code takes from a ticket that passes
+--   ShiftedEntries G t a, entries-shifted   a holds the entries of A, each with the bound added
+--   LiftedClaims G t y, claims-lifted       y holds what the claims put for their sums, lifted
+--   entries-A, entries-B  the entries of A and of B as 16-bit numbers
+--   values-B              the values of the records of B
+use Prim.Native.Nat.{ℕ, suc, _+_, _-_, _*_, _/_, _%_, _^_, _≤_, _<_, min}
+use native.Mathlib.Decide.{decLe}
+use native.Mathlib.Nat.{mod-lt, mod-eq-of-lt, min-eq-left, div-add-mod', div-lt-iff-lt-mul, mul-le-mul-right}
+use native.Mathlib.Omega.{arith}
+use mathlib.Core.Path.{_≡_, refl, sym, ap, _∙_}
+use mathlib.Core.List.{List}
+use lib.Arith.{digits-lt}
+use lib.IntN.{ℤ, pos, negsuc, natAbs, _+ℤ_, _-ℤ_, _*ℤ_}
+use lib.ListN.{length, getD}
+use Rattle.residue.specs.Rules.{modulus, leastResidue, signedEntry}
+use Rattle.residue.specs.Laws.Integers.{positive, negative, equal-of-parts, parts-sum, parts-difference, parts-product, parts-within}
+use Rattle.residue.specs.Laws.Modulo.{sumOnce, sum-once, sum-once-low, sum-once-high}
+use Rattle.residue.specs.Laws.Modulus.{modulus-above, modulus-below, modulus-positive}
+use Rattle.residue.specs.Laws.Residues.{entry-low, entry-high}
+use Rattle.algebra.specs.Laws.Fills.{Filled}
+use Rattle.ticket.specs.declared.setting.Setting.{Setting}
+use Rattle.ticket.specs.Rules.{halfRange, lift, parts, part, partSize, start, ofA, ofB, ofQuotients, ofRemainders, recordBytes, valueAt, valueIn, shiftedQuotient, entryA, entryB, quotient, remainder, claim}
+use Rattle.ticket.specs.Laws.Limits.{half-small, lift-small, clamped, clamped-same}
+use Rattle.ticket.specs.Laws.Layout.{partBytes, part-bytes-long, value-of-part, value-in}
+use Rattle.ticket.specs.Laws.Passes.{Passed, valid}
+use Rattle.ticket.specs.Laws.Differences.{size-entryA, size-entryB, shifted-below, remainder-below, residue-entryB}
+use Rattle.ticket.specs.Laws.Lifts.{Lifted}
+
+-- what the calls give, of any bytes
+
+abbrev pub decodedCount : List ℕ → ℕ → ℕ
+decodedCount bytes size = min (length bytes / recordBytes) size
+
+abbrev pub claimCount : List ℕ → List ℕ → ℕ → ℕ
+claimCount quotients remainders size = min (min (length quotients / recordBytes) (length remainders / recordBytes)) size
+
+abbrev pub shiftedAt : List ℕ → ℕ → ℕ → ℕ
+shiftedAt bytes shift k = sumOnce modulus (valueAt bytes k) (shift % modulus)
+
+abbrev pub liftedAt : List ℕ → List ℕ → ℕ → ℕ → ℕ → ℕ
+liftedAt quotients remainders half scale c = (shiftedAt quotients half c * scale + valueAt remainders c) % 2 ^ 32
+
+abbrev pub narrowShift : ℕ
+narrowShift = 32_768
+
+abbrev pub narrowed : ℕ → ℤ
+narrowed shifted = pos (shifted % 65_536) -ℤ pos narrowShift
+
+abbrev pub narrowAt : List ℕ → ℕ → ℤ
+narrowAt bytes k = narrowed (sumOnce modulus (valueAt bytes k) narrowShift)
+
+-- what that stands for
+
+module _ (p : ℕ) (above : 0 < p) (s v : ℕ) (most : s ≤ (p - 1) / 2) (least : v < p) (size : natAbs (signedEntry p v) ≤ s) where
+  pub shifted-entry : pos (sumOnce p v s) ≡ signedEntry p v +ℤ pos s
+  shifted-entry =
+      elim (decLe v ((p - 1) / 2)) [
+        | yes low ↦ ap pos (sum-once-low p v s (omega arith)) ∙ ap (λ z. z +ℤ pos s) (sym (entry-low p above v low))
+        | no high ↦
+            let is : signedEntry p v ≡ negsuc (p - suc v) = entry-high p above v (omega arith) least in
+            let near : suc (p - suc v) ≤ s = rw is at size in
+            ap pos (sum-once-high p v s (omega arith))
+            ∙ equal-of-parts (pos (v + s - p)) (negsuc (p - suc v) +ℤ pos s) (omega (arith, parts-sum (negsuc (p - suc v)) (pos s)))
+            ∙ ap (λ z. z +ℤ pos s) (sym is)
+      ]
+
+pub record Decodable (G : Setting) (t : List ℕ) (w : ℕ) (b : List ℕ) : Type 0 where
+  pub long : length b ≡ recordBytes * partSize (part G w)
+  pub each : (i j : ℕ) → i < part G w .rows → j < part G w .columns → valueAt b (i * part G w .columns + j) ≡ valueIn G t w i j
+
+module _ {G : Setting} {t : List ℕ} (passed : Passed G t) where
+  pub decodable : (w : ℕ) {b : List ℕ} → b ≡ partBytes (clamped G) t w → Decodable G t w b
+  decodable w {b} b-is =
+      let is : b ≡ partBytes G t w = b-is ∙ ap (λ H. partBytes H t w) (clamped-same (passed .counts .sizes) (passed .numbers)) in
+      record {
+        long = ap length is ∙ part-bytes-long G t w (passed .long);
+        each = λ i j l m.
+            ap (λ x. valueAt x (i * part G w .columns + j)) is ∙ value-of-part G t w (digits-lt l m) ∙ sym (value-in G t w i j);
+      }
+
+-- all records of a part are decoded, where there is room for them
+counted : (b : List ℕ) {n size : ℕ} → length b ≡ recordBytes * n → n ≤ size → decodedCount b size ≡ n
+counted b {n} {size} long room =
+    let same : length b / recordBytes ≡ n = rw long (omega arith) in
+    rw (same, min-eq-left room)
+
+both-counted : (q r : List ℕ) {n size : ℕ} → length q ≡ recordBytes * n → length r ≡ recordBytes * n → n ≤ size → claimCount q r size ≡ n
+both-counted q r {n} {size} long-q long-r room =
+    let same-q : length q / recordBytes ≡ n = rw long-q (omega arith) in
+    let same-r : length r / recordBytes ≡ n = rw long-r (omega arith) in
+    let least : min n n ≡ n = min-eq-left (omega arith) in
+    rw (same-q, same-r, least, min-eq-left room)
+
+pub record ShiftedEntries (G : Setting) (t a : List ℕ) : Type 0 where
+  pub long : G .rows * G .inner ≤ length a
+  pub entry : (i k : ℕ) → i < G .rows → k < G .inner → pos (getD a (i * G .inner + k) 0) ≡ entryA G t i k +ℤ pos (G .bound)
+  pub small : (k : ℕ) → k < G .rows * G .inner → getD a k 0 < 2 ^ 16
+
+pub record LiftedClaims (G : Setting) (t y : List ℕ) : Type 0 where
+  pub long : G .rows * G .columns ≤ length y
+  pub each : (i j : ℕ) → i < G .rows → j < G .columns → Lifted G (claim G t i j) (getD y (i * G .columns + j) 0)
+
+module _ {G : Setting} {t : List ℕ} (passed : Passed G t) where
+  -- what holds of every row and column of a part holds of each of its records
+  by-row : (Q : ℕ → Type 0) {rows : ℕ} (columns : ℕ) → 0 < columns → ((i j : ℕ) → i < rows → j < columns → Q (i * columns + j))
+      → (k : ℕ) → k < rows * columns → Q k
+  by-row Q columns wide h k l =
+      rw (div-add-mod' k columns) at (h (k / columns) (k % columns) (div-lt-iff-lt-mul wide .1 l) (mod-lt k wide))
+
+  bound-small : (narrowShift ≤ (modulus - 1) / 2) × (G .bound ≤ (modulus - 1) / 2) × (G .bound < modulus)
+  bound-small = omega (arith, modulus-above, passed .numbers .bound)
+
+  module _ {a before : List ℕ} {b : List ℕ} (b-is : b ≡ partBytes (clamped G) t ofA) (room : G .rows * G .inner ≤ length before)
+      (filled : Filled 0 before (decodedCount b (length before)) (shiftedAt b (G .bound)) a) where
+    entry-shifted : (i k : ℕ) → i < G .rows → k < G .inner → pos (getD a (i * G .inner + k) 0) ≡ entryA G t i k +ℤ pos (G .bound)
+    unfolding parts part entryA
+    entry-shifted i k l m =
+        let d = decodable passed ofA b-is in
+        let value = valueIn G t ofA i k in
+        let inside : i * G .inner + k < decodedCount b (length before) = rw (counted b (d .long) room) (digits-lt l m) in
+        let reduced : G .bound % modulus ≡ G .bound = mod-eq-of-lt (bound-small .2) in
+        ap pos (filled .each (i * G .inner + k) inside ∙ rw (d .each i k l m, reduced))
+        ∙ shifted-entry modulus modulus-positive (G .bound) value (bound-small .1) (valid passed ofA i k l m .below) (size-entryA passed i k l m)
+
+    pub entries-shifted : ShiftedEntries G t a
+    entries-shifted =
+        record {
+          long = omega (arith, filled .long);
+          entry = entry-shifted;
+          small = by-row (λ k. getD a k 0 < 2 ^ 16) (G .inner) (omega (arith, passed .counts .sizes .inner)) (λ i k l m.
+              omega (
+                arith,
+                ap positive (entry-shifted i k l m),
+                ap negative (entry-shifted i k l m),
+                parts-sum (entryA G t i k) (pos (G .bound)),
+                parts-within (entryA G t i k) (G .bound) (size-entryA passed i k l m),
+                passed .numbers .bound,
+              ));
+        }
+
+  module _ {y before q r : List ℕ} {half : ℕ} (q-is : q ≡ partBytes (clamped G) t ofQuotients) (r-is : r ≡ partBytes (clamped G) t ofRemainders)
+      (half-is : half ≡ halfRange (clamped G)) (room : G .rows * G .columns ≤ length before)
+      (filled : Filled 0 before (claimCount q r (length before)) (liftedAt q r half (G .scale)) y) where
+    pub claims-lifted : LiftedClaims G t y
+    unfolding parts part claim quotient remainder shiftedQuotient
+    claims-lifted =
+        record {
+          long = omega (arith, filled .long);
+          each = λ i j l m.
+              let d = decodable passed ofQuotients q-is in
+              let e = decodable passed ofRemainders r-is in
+              let value = valueIn G t ofQuotients i j in
+              let shifted = shiftedQuotient (G .width) value in
+              let left = valueIn G t ofRemainders i j in
+              let inside : i * G .columns + j < claimCount q r (length before) = rw (both-counted q r (d .long) (e .long) room) (digits-lt l m) in
+              let same : half ≡ halfRange G = half-is ∙ ap halfRange (clamped-same (passed .counts .sizes) (passed .numbers)) in
+              let reduced : halfRange G % modulus ≡ halfRange G = mod-eq-of-lt (omega (arith, half-small {G = G} (passed .numbers), modulus-above)) in
+              let once = sum-once modulus value (halfRange G) (valid passed ofQuotients i j l m .below) (omega (arith, half-small {G = G} (passed .numbers), modulus-above)) in
+              let scaled = mul-le-mul-right (G .scale) (shifted-below passed i j l m) in
+              let few : shifted * G .scale + left < 2 ^ 32 =
+              omega (arith, scaled, passed .fitted .claims, modulus-below, remainder-below passed i j l m) in
+              ap pos (filled .each (i * G .columns + j) inside ∙ rw (d .each i j l m, e .each i j l m, same, reduced, once, mod-eq-of-lt few))
+              ∙ claim-lifted i j;
+        }
+      where
+        -- the shifted quotient times the scale, and the remainder, is the claim, lifted
+        claim-lifted : (i j : ℕ) → let s = shiftedQuotient (G .width) (valueIn G t ofQuotients i j) in let r = valueIn G t ofRemainders i j in
+            pos (s * G .scale + r) ≡ claim G t i j +ℤ pos (lift G)
+        claim-lifted i j =
+            let s = shiftedQuotient (G .width) (valueIn G t ofQuotients i j) in
+            let r = valueIn G t ofRemainders i j in
+            let q = pos s -ℤ pos (halfRange G) in
+            let scaled = pos (G .scale) *ℤ q in
+            equal-of-parts (pos (s * G .scale + r)) (scaled +ℤ pos r +ℤ pos (lift G))
+            (omega (
+              arith,
+              parts-sum (scaled +ℤ pos r) (pos (lift G)),
+              parts-sum scaled (pos r),
+              parts-product (pos (G .scale)) q,
+              ap (λ n. G .scale * n) (parts-difference (pos s) (pos (halfRange G))),
+            ))
+
+  -- an entry as a 16-bit number
+  narrow-entry : (v : ℕ) → v < modulus → natAbs (signedEntry modulus v) ≤ G .bound → narrowed (sumOnce modulus v narrowShift) ≡ signedEntry modulus v
+  narrow-entry v least size =
+      let shifted = shifted-entry modulus modulus-positive narrowShift v (bound-small .0) least (omega (arith, passed .numbers .bound)) in
+      let x = sumOnce modulus v narrowShift in
+      let z = signedEntry modulus v in
+      let parts = parts-within z (G .bound) size in
+      let few : x < 65_536 =
+      omega (arith, ap positive shifted, ap negative shifted, parts-sum z (pos narrowShift), passed .numbers .bound) in
+      ap (λ n. pos n -ℤ pos narrowShift) (mod-eq-of-lt few)
+      ∙ equal-of-parts (pos x -ℤ pos narrowShift) z
+      (omega (arith, parts-difference (pos x) (pos narrowShift), ap positive shifted, ap negative shifted, parts-sum z (pos narrowShift)))
+
+  module _ {a before : List ℤ} {b : List ℕ} (filled : Filled (pos 0) before (decodedCount b (length before)) (narrowAt b) a) where
+    pub entries-A : b ≡ partBytes (clamped G) t ofA → G .rows * G .inner ≤ length before
+        → (i k : ℕ) → i < G .rows → k < G .inner → getD a (i * G .inner + k) (pos 0) ≡ entryA G t i k
+    unfolding parts part entryA
+    entries-A b-is room i k l m =
+        let d = decodable passed ofA b-is in
+        filled .each (i * G .inner + k) (rw (counted b (d .long) room) (digits-lt l m))
+        ∙ ap (λ v. narrowed (sumOnce modulus v narrowShift)) (d .each i k l m)
+        ∙ narrow-entry (valueIn G t ofA i k) (valid passed ofA i k l m .below) (size-entryA passed i k l m)
+
+    pub entries-B : b ≡ partBytes (clamped G) t ofB → G .inner * G .columns ≤ length before
+        → (k j : ℕ) → k < G .inner → j < G .columns → getD a (k * G .columns + j) (pos 0) ≡ entryB G t k j
+    unfolding parts part entryB
+    entries-B b-is room k j l m =
+        let d = decodable passed ofB b-is in
+        filled .each (k * G .columns + j) (rw (counted b (d .long) room) (digits-lt l m))
+        ∙ ap (λ v. narrowed (sumOnce modulus v narrowShift)) (d .each k j l m)
+        ∙ narrow-entry (valueIn G t ofB k j) (valid passed ofB k j l m .below) (size-entryB passed k j l m)
+
+  pub values-B : {b : List ℕ} → b ≡ partBytes (clamped G) t ofB → (length b ≡ recordBytes * (G .inner * G .columns))
+      × ((k j : ℕ) → k < G .inner → j < G .columns → valueAt b (k * G .columns + j) ≡ leastResidue modulus (entryB G t k j))
+  unfolding parts part
+  values-B b-is =
+      let d = decodable passed ofB b-is in
+      (d .long, λ k j l m. d .each k j l m ∙ sym (residue-entryB passed k j l m))

@@ -1,0 +1,144 @@
+-- What the records of a ticket that passes stand for: how large it is, its least residue, and how far a claim is from what it is
+-- compared with.
+--
+--   size-entryA, size-entryB   an entry is at most the bound in size
+--   size-quotient              a quotient is at most half of the quotients' range in size
+--   small-remainder            a remainder is a natural number below the scale
+--   claim-is, due-is           what a claim puts for its sum, and what it is compared with, written out
+--   size-sum-of                an exact sum of entries within the bound is at most as large as a sum can be
+--   size-due                   so is what a claim is compared with
+--   claims-close               a claim and what it is compared with are less than p apart
+--   value-of                   a record's value is the least residue of what it stands for
+--   claim-decided              a claim is true or untrue
+--   claims-true                a ticket that is false in no column has every claim true
+use Prim.Native.Nat.{ℕ, _+_, _-_, _*_, _/_, _%_, _^_, _≤_, _<_}
+use native.Mathlib.Nat.{div-add-mod, mul-le-mul-left}
+use native.Mathlib.Omega.{arith}
+use mathlib.Core.Path.{_≡_, refl, _∙_}
+use mathlib.Core.Logic.{_⊎_, inl, inr, ⊎-elim}
+use mathlib.Core.List.{List}
+use borrow.Author.Tests.{leb-true, ltb-true}
+use lib.IntN.{ℤ, pos, negsuc, natAbs, _+ℤ_, _-ℤ_, _*ℤ_, ℤ-discrete}
+use Rattle.residue.specs.Rules.{modulus, leastResidue}
+use Rattle.residue.specs.Laws.Integers.{positive, negative, parts-difference}
+use Rattle.residue.specs.Laws.Residues.{residue-of-entry, residue-of-residue, residue-shift}
+use Rattle.residue.specs.Laws.Modulus.{modulus-positive}
+use Rattle.algebra.specs.Laws.IntegerSums.{size-sum, size-difference, size-product}
+use Rattle.algebra.specs.Laws.MatrixProducts.{size-matrixProduct}
+use Rattle.ticket.specs.declared.setting.Setting.{Setting}
+use Rattle.ticket.specs.Rules.{reach, halfRange, lift, isEntry, shiftedQuotient, parts, part, ofA, ofB, ofQuotients, ofRemainders, valueIn, entryA, entryB, quotient, remainder, claim, exactSum, due, Untrue, FalseIn}
+use Rattle.ticket.specs.Laws.Limits.{half-double}
+use Rattle.ticket.specs.Laws.Passes.{Passed, Valid, valid}
+
+-- the size of the difference of two numbers that are at most b apart
+size-between : (z : ℤ) (u v b : ℕ) → positive z + v ≡ u + negative z → u ≤ v + b → v ≤ u + b → natAbs z ≤ b
+size-between (pos n) u v b e above below = omega arith
+size-between (negsuc n) u v b e above below = omega arith
+
+pub claim-is : (G : Setting) (t : List ℕ) (i j : ℕ) → claim G t i j ≡ pos (G .scale) *ℤ quotient G t i j +ℤ remainder G t i j
+unfolding claim
+claim-is G t i j = refl
+
+pub due-is : (G : Setting) (t : List ℕ) (i j : ℕ) → due G t i j ≡ exactSum G (entryA G t) (entryB G t) i j
+unfolding due
+due-is G t i j = refl
+
+pub size-sum-of : (G : Setting) (A B : ℕ → ℕ → ℤ) (i j : ℕ) → ((k : ℕ) → k < G .inner → natAbs (A i k) ≤ G .bound)
+    → ((k : ℕ) → k < G .inner → natAbs (B k j) ≤ G .bound) → natAbs (exactSum G A B i j) ≤ reach G
+unfolding exactSum
+size-sum-of G A B i j a b = size-matrixProduct (G .inner) A B i j a b
+
+module _ {G : Setting} {t : List ℕ} (passed : Passed G t) where
+  -- the values of a part by the sizes of the setting
+  valid-A : (i k : ℕ) → i < G .rows → k < G .inner → Valid (part G ofA) (valueIn G t ofA i k)
+  unfolding parts part
+  valid-A i k l m = valid passed ofA i k l m
+
+  valid-B : (k j : ℕ) → k < G .inner → j < G .columns → Valid (part G ofB) (valueIn G t ofB k j)
+  unfolding parts part
+  valid-B k j l m = valid passed ofB k j l m
+
+  module _ (i j : ℕ) (l : i < G .rows) (m : j < G .columns) where
+    valid-quotient : Valid (part G ofQuotients) (valueIn G t ofQuotients i j)
+    unfolding parts part
+    valid-quotient = valid passed ofQuotients i j l m
+
+    valid-remainder : Valid (part G ofRemainders) (valueIn G t ofRemainders i j)
+    unfolding parts part
+    valid-remainder = valid passed ofRemainders i j l m
+
+  pub size-entryA : (i k : ℕ) → i < G .rows → k < G .inner → natAbs (entryA G t i k) ≤ G .bound
+  unfolding entryA parts part isEntry
+  size-entryA i k l m = leb-true _ _ (valid-A i k l m .in-range)
+
+  pub size-entryB : (k j : ℕ) → k < G .inner → j < G .columns → natAbs (entryB G t k j) ≤ G .bound
+  unfolding entryB parts part isEntry
+  size-entryB k j l m = leb-true _ _ (valid-B k j l m .in-range)
+
+  module _ (i j : ℕ) (l : i < G .rows) (m : j < G .columns) where
+    pub shifted-below : shiftedQuotient (G .width) (valueIn G t ofQuotients i j) < 2 ^ G .width
+    unfolding parts part
+    shifted-below = ltb-true _ _ (valid-quotient i j l m .in-range)
+
+    pub size-quotient : natAbs (quotient G t i j) ≤ halfRange G
+    unfolding quotient
+    size-quotient =
+        let shifted = shiftedQuotient (G .width) (valueIn G t ofQuotients i j) in
+        size-between (quotient G t i j) shifted (halfRange G) (halfRange G)
+        (omega (arith, parts-difference (pos shifted) (pos (halfRange G))))
+        (omega (arith, shifted-below, half-double (passed .numbers))) (omega arith)
+
+    pub remainder-below : valueIn G t ofRemainders i j < G .scale
+    unfolding parts part
+    remainder-below = ltb-true _ _ (valid-remainder i j l m .in-range)
+
+    pub small-remainder : (r : ℕ) × (r < G .scale) × (remainder G t i j ≡ pos r)
+    unfolding remainder
+    small-remainder = (valueIn G t ofRemainders i j, remainder-below, refl)
+
+    pub size-due : natAbs (due G t i j) ≤ reach G
+    unfolding due
+    size-due = size-sum-of G (entryA G t) (entryB G t) i j (λ k h. size-entryA i k l h) (λ k h. size-entryB k j h m)
+
+    pub claims-close : natAbs (claim G t i j -ℤ due G t i j) < modulus
+    unfolding claim remainder
+    claims-close =
+        let scaled : natAbs (pos (G .scale) *ℤ quotient G t i j) ≤ G .scale * halfRange G =
+        rw (size-product (pos (G .scale)) (quotient G t i j)) (mul-le-mul-left (G .scale) size-quotient) in
+        let claimed : natAbs (claim G t i j) ≤ natAbs (pos (G .scale) *ℤ quotient G t i j) + valueIn G t ofRemainders i j =
+        size-sum (pos (G .scale) *ℤ quotient G t i j) (remainder G t i j) in
+        let room : 2 * halfRange G * G .scale < modulus = rw (half-double {G = G} (passed .numbers)) (passed .fitted .claims) in
+        omega (
+          arith,
+          size-difference (claim G t i j) (due G t i j),
+          remainder-below,
+          size-due,
+          passed .fitted .sums,
+        )
+
+    pub residue-quotient : leastResidue modulus (quotient G t i j) ≡ valueIn G t ofQuotients i j
+    unfolding quotient shiftedQuotient
+    residue-quotient =
+        let value = valueIn G t ofQuotients i j in
+        residue-shift modulus modulus-positive (quotient G t i j) (pos value) ((value + halfRange G) / modulus) 0
+        (omega (arith, parts-difference (pos ((value + halfRange G) % modulus)) (pos (halfRange G)), div-add-mod (value + halfRange G) modulus))
+        ∙ residue-of-residue modulus modulus-positive value (valid-quotient i j l m .below)
+
+    pub residue-remainder : leastResidue modulus (remainder G t i j) ≡ valueIn G t ofRemainders i j
+    unfolding remainder
+    residue-remainder = residue-of-residue modulus modulus-positive _ (valid-remainder i j l m .below)
+
+  pub residue-entryA : (i k : ℕ) → i < G .rows → k < G .inner → leastResidue modulus (entryA G t i k) ≡ valueIn G t ofA i k
+  unfolding entryA
+  residue-entryA i k l m = residue-of-entry modulus modulus-positive _ (valid-A i k l m .below)
+
+  pub residue-entryB : (k j : ℕ) → k < G .inner → j < G .columns → leastResidue modulus (entryB G t k j) ≡ valueIn G t ofB k j
+  unfolding entryB
+  residue-entryB k j l m = residue-of-entry modulus modulus-positive _ (valid-B k j l m .below)
+
+pub claim-decided : (G : Setting) (t : List ℕ) (i j : ℕ) → (claim G t i j ≡ due G t i j) ⊎ Untrue G t i j
+claim-decided G t i j = elim (ℤ-discrete (claim G t i j) (due G t i j)) [ yes e ↦ inl e | no d ↦ inr d ]
+
+pub claims-true : (G : Setting) (t : List ℕ) → ((j : ℕ) → FalseIn G t j → ⊥)
+    → (i j : ℕ) → i < G .rows → j < G .columns → claim G t i j ≡ due G t i j
+claims-true G t none i j l m = ⊎-elim (λ e. e) (λ d. absurd (none j (m, (i, l, d)))) (claim-decided G t i j)

@@ -1,0 +1,166 @@
+-- The form that the code gives the tests of a part, and that they are the rule's.
+--
+--   formsOf G, formOf G w   the forms of the parts, in order, and that of part w
+--   testedAt b F i r c   the number of record i of b by the form F, which stands in row r, column c
+--   tested b F i         the same, the row and the column from i
+--   partAnswer F a b     the answer of the part that b begins with, of which the first record has the number a
+--   Ranged F             the range of F is within p
+--   Holds b F            b begins with the part of form F, which is not large, and its range is within p
+--   recordSlice b i      the bytes of record i of b, as a slice
+--   slice-long, first-word, last-word   how many they are, and the words of its first four bytes and of its last
+--   header-formed        the form of a record by its first four bytes as one word
+--   tested-misformed, tested-large, tested-outside, tested-passed   the number, as the tests come out in order
+--   Scanned b F i r c    the records before i pass, and i is in row r, column c
+--   scanned-none         before the first record
+--   scanned-refused      record i is refused: the answer of the part
+--   scanned-next, scanned-row   record i passes too: the next one is in the same row, or at the beginning of the next
+use Prim.Native.Nat.{ℕ, _+_, _-_, _*_, _/_, _%_, _^_, _≤_, _<_}
+use native.Mathlib.Decide.{ℕ-discrete}
+use native.Mathlib.Omega.{arith}
+use mathlib.Core.Path.{_≡_, sym, ap, _∙_}
+use mathlib.Core.Bool.{Bool, true, false}
+use mathlib.Core.List.{List, [], _∷_}
+use borrow.Author.Tests.{le-ltb, lt-ltb}
+use lib.Dec.{ltb, eqb}
+use lib.IntN.{pos, _+ℤ_}
+use lib.ListN.{length, getD, take, drop}
+use Rattle.residue.specs.Rules.{modulus, leastResidue}
+use Rattle.residue.specs.Laws.Modulus.{modulus-positive}
+use Rattle.residue.specs.Laws.Residues.{residue-of-natural}
+use Rattle.algebra.specs.Rules.{word}
+use Rattle.algebra.specs.Laws.Bytes.{word-eqb}
+use Rattle.algebra.specs.Laws.Fills.{part-of, part-long}
+use Rattle.algebra.specs.Laws.Positions.{Position, position-none, row-of, column-of, position-next, position-row}
+use Rattle.ticket.specs.Rules.{Test, test, firstFailed, recordBytes, byteAt, formed, valueAt, halfRange, refusal, firstRefusal}
+use Rattle.ticket.specs.Laws.Scans.{refusal-is}
+use Rattle.ticket.specs.Laws.Tests.{AllHold, Failed, none, one, here, later, holding-number, failed-number}
+use Rattle.ticket.specs.declared.Answer.{Answer}
+use Rattle.ticket.specs.declared.setting.Setting.{Setting}
+use Rattle.ticket.specs.declared.records.Form.{Form}
+
+unfoldable pub formsOf : Setting → List Form
+formsOf G =
+    record { kind = 1; rows = G .rows; columns = G .inner; shift = G .bound; limit = 2 * G .bound + 1; outside = 7 }
+    ∷ record { kind = 2; rows = G .inner; columns = G .columns; shift = G .bound; limit = 2 * G .bound + 1; outside = 7 }
+    ∷ record { kind = 3; rows = G .rows; columns = G .columns; shift = halfRange G; limit = 2 * halfRange G; outside = 8 }
+    ∷ []
+
+-- of the last part, and past it
+abbrev lastForm : Setting → Form
+lastForm G = record { kind = 4; rows = G .rows; columns = G .columns; shift = 0; limit = G .scale; outside = 9 }
+
+unfoldable pub formOf : Setting → ℕ → Form
+formOf G w = getD (formsOf G) w (lastForm G)
+
+-- the tests of record i, in order
+abbrev testsAt : List ℕ → Form → ℕ → ℕ → ℕ → List Test
+testsAt bytes F i row column =
+    test (formed bytes i (F .kind) row column) 5
+    ∷ test (ltb (valueAt bytes i) modulus) 6
+    ∷ test (ltb ((valueAt bytes i + F .shift) % modulus) (F .limit)) (F .outside)
+    ∷ []
+
+unfoldable pub testedAt : List ℕ → Form → ℕ → ℕ → ℕ → ℕ
+testedAt bytes F i row column = firstFailed (testsAt bytes F i row column)
+
+abbrev pub tested : List ℕ → Form → ℕ → ℕ
+tested bytes F i = testedAt bytes F i (i / F .columns) (i % F .columns)
+
+abbrev pub partAnswer : Form → ℕ → List ℕ → Answer
+partAnswer F from bytes = firstRefusal from (F .rows * F .columns) (tested bytes F)
+
+pub record Ranged (F : Form) : Type 0 where
+  pub shift : F .shift ≤ F .limit
+  pub limit : F .limit ≤ modulus
+
+pub record Holds (bytes : List ℕ) (F : Form) : Type 0 where
+  pub columns : 1 ≤ F .columns
+  pub few : F .rows * F .columns < 2 ^ 16
+  pub long : recordBytes * (F .rows * F .columns) ≤ length bytes
+  pub range : Ranged F
+
+abbrev pub recordSlice : List ℕ → ℕ → List ℕ
+recordSlice b i = take (recordBytes * i + recordBytes - recordBytes * i) (drop (recordBytes * i) b)
+
+pub slice-long : (b : List ℕ) (i : ℕ) → recordBytes * i + recordBytes ≤ length b → length (recordSlice b i) ≡ recordBytes
+slice-long b i l = part-long b (recordBytes * i) recordBytes l
+
+module _ (b : List ℕ) (i : ℕ) where
+  byte-of : (k : ℕ) → k < recordBytes → getD (recordSlice b i) k 0 ≡ byteAt b i k
+  byte-of k l = part-of b (recordBytes * i) recordBytes k 0 l
+
+  word-of : (j k l m : ℕ) → j < recordBytes → k < recordBytes → l < recordBytes → m < recordBytes → let r = recordSlice b i in
+      word (getD r j 0) (getD r k 0) (getD r l 0) (getD r m 0) ≡ word (byteAt b i j) (byteAt b i k) (byteAt b i l) (byteAt b i m)
+  word-of j k l m hj hk hl hm = omega (arith, byte-of j hj, byte-of k hk, byte-of l hl, byte-of m hm)
+
+  pub first-word : let r = recordSlice b i in
+      word (getD r 0 0) (getD r 1 0) (getD r 2 0) (getD r 3 0) ≡ word (byteAt b i 0) (byteAt b i 1) (byteAt b i 2) (byteAt b i 3)
+  first-word = word-of 0 1 2 3 (omega arith) (omega arith) (omega arith) (omega arith)
+
+  pub last-word : valueAt (recordSlice b i) 0 ≡ valueAt b i
+  unfolding valueAt
+  last-word = word-of 4 5 6 7 (omega arith) (omega arith) (omega arith) (omega arith)
+
+pub header-formed : (bytes : List ℕ) (i : ℕ) {kind row column header expected : ℕ}
+    → header ≡ word (byteAt bytes i 0) (byteAt bytes i 1) (byteAt bytes i 2) (byteAt bytes i 3)
+    → expected ≡ word kind 0 row column
+    → ((k : ℕ) → getD bytes k 0 < 256) → kind < 256 → row < 256 → column < 256
+    → eqb header expected ≡ formed bytes i kind row column
+unfolding formed
+header-formed bytes i h e small k r c = rw (h, e) (word-eqb (small _) (small _) (small _) (small _) k (omega arith) r c)
+
+module _ (bytes : List ℕ) (F : Form) (i row column : ℕ) where
+  failed : {c : ℕ} → Failed (testsAt bytes F i row column) c → c ≡ testedAt bytes F i row column
+  unfolding testedAt
+  failed f = sym (failed-number f)
+
+  pub tested-misformed : formed bytes i (F .kind) row column ≡ false → 5 ≡ testedAt bytes F i row column
+  tested-misformed e = failed (here e)
+
+  module _ (form : formed bytes i (F .kind) row column ≡ true) where
+    pub tested-large : ltb (valueAt bytes i) modulus ≡ false → 6 ≡ testedAt bytes F i row column
+    tested-large e = failed (later form (here e))
+
+    module _ (small : ltb (valueAt bytes i) modulus ≡ true) {shifted : ℕ}
+        (shifted-is : shifted ≡ leastResidue modulus (pos (valueAt bytes i) +ℤ pos (F .shift))) where
+      shifted-by : shifted ≡ (valueAt bytes i + F .shift) % modulus
+      shifted-by = shifted-is ∙ residue-of-natural modulus modulus-positive (valueAt bytes i + F .shift)
+
+      pub tested-outside : F .limit ≤ shifted → F .outside ≡ testedAt bytes F i row column
+      tested-outside h = failed (later form (later small (here (rw (← shifted-by) (le-ltb shifted (F .limit) h)))))
+
+      pub tested-passed : shifted < F .limit → 0 ≡ testedAt bytes F i row column
+      unfolding testedAt
+      tested-passed h = sym (holding-number (one form (one small (one (rw (← shifted-by) (lt-ltb shifted (F .limit) h)) none))))
+
+pub record Scanned (bytes : List ℕ) (F : Form) (i row column : ℕ) : Type 0 where
+  pub at : Position (F .columns) i row column
+  pub before : (k : ℕ) → k < i → tested bytes F k ≡ 0
+
+module _ (bytes : List ℕ) (F : Form) where
+  pub scanned-none : 1 ≤ F .columns → Scanned bytes F 0 0 0
+  scanned-none h = record { at = position-none h; before = λ k l. omega arith }
+
+  module _ {i row column : ℕ} (s : Scanned bytes F i row column) where
+    scanned-number : testedAt bytes F i row column ≡ tested bytes F i
+    scanned-number = sym (rw (row-of (s .at), column-of (s .at)))
+
+    pub scanned-refused : (from count : ℕ) {number : ℕ} → i < count → number ≡ testedAt bytes F i row column → (number ≡ 0 → ⊥)
+        → refusal number (from + i) ≡ firstRefusal from count (tested bytes F)
+    scanned-refused from count l e d =
+        ap (λ n. refusal n (from + i)) (e ∙ scanned-number)
+        ∙ sym (refusal-is from count i (tested bytes F) l (s .before) (λ z. d (e ∙ scanned-number ∙ z)))
+
+    module _ {number : ℕ} (number-is : number ≡ testedAt bytes F i row column) (passed : number ≡ 0) where
+      before-next : (k : ℕ) → k < i + 1 → tested bytes F k ≡ 0
+      before-next k l =
+          elim (ℕ-discrete k i) [
+            | yes e ↦ ap (tested bytes F) e ∙ sym scanned-number ∙ sym number-is ∙ passed
+            | no d ↦ s .before k (omega arith)
+          ]
+
+      pub scanned-next : (column + 1 ≡ F .columns → ⊥) → Scanned bytes F (i + 1) row (column + 1)
+      scanned-next d = record { at = position-next (s .at) d; before = before-next }
+
+      pub scanned-row : column + 1 ≡ F .columns → Scanned bytes F (i + 1) (row + 1) 0
+      scanned-row e = record { at = position-row (s .at) e; before = before-next }

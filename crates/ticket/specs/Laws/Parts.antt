@@ -1,0 +1,184 @@
+-- The parts of a ticket as the code reads them: each by its form, one after the other, is reading the ticket.
+--
+--   entry-range        an entry is in range exactly when, shifted by the bound, it is at most twice the bound
+--   MakesTests F P     the form F of the code makes the tests of the part P
+--   forms-make         the form of each part does
+--   ReadReady G t      setting and length pass their tests
+--   PartReady G t w    so they do, and w is the number of a part
+--   part-holds         then the part can be read by its form
+--   partRead G t w     the answer of part w
+--   ReadTo G t w a     a is the answer of the parts before w
+--   read-none, read-next, read-all   no part, one more, and all
+use Prim.Native.Nat.{ℕ, zero, suc, _+_, _-_, _*_, _/_, _%_, _^_, _≤_, _<_}
+use native.Mathlib.Nat.{mod-eq-of-lt}
+use native.Mathlib.Decide.{decLe}
+use native.Mathlib.Omega.{arith}
+use mathlib.Core.Path.{_≡_, refl, sym, ap, _∙_}
+use mathlib.Core.Bool.{Bool, true}
+use mathlib.Core.List.{List, [], _∷_}
+use borrow.Author.Tests.{lt-ltb, le-ltb, le-leb, lt-leb}
+use lib.Dec.{leb, ltb}
+use lib.IntN.{natAbs}
+use lib.ListN.{length}
+use Rattle.residue.specs.Rules.{modulus, signedEntry}
+use Rattle.residue.specs.Laws.Modulo.{mod-once}
+use Rattle.residue.specs.Laws.Residues.{entry-low, entry-high}
+use Rattle.residue.specs.Laws.Modulus.{modulus-positive, modulus-above}
+use Rattle.ticket.specs.declared.setting.Setting.{Setting}
+use Rattle.ticket.specs.declared.Answer.{Answer}
+use Rattle.ticket.specs.declared.records.Form.{Form}
+use Rattle.ticket.specs.Rules.{Test, firstFailed, Part, parts, part, partSize, start, records, holder, isEntry, isQuotient, shiftedQuotient, recordBytes, ticketLength, formed, valueAt, partTests, recordTests, recordNumber, refusal, firstRefusal, after}
+use Rattle.ticket.specs.Laws.First.{true-or-false}
+use Rattle.ticket.specs.Laws.Limits.{Sizes, Numbers, Fitted, Counts, counts, half-small, half-double}
+use Rattle.ticket.specs.Laws.Layout.{start-none, start-next, ends-within, records-end, holder-at, parts-are, partBytes, part-bytes-long, form-of-part, value-of-part}
+use Rattle.ticket.specs.Laws.Scans.{refusal-none, refusal-cong, refusal-split}
+use Rattle.ticket.specs.Laws.Forms.{formsOf, formOf, tested, testedAt, partAnswer, Holds, Ranged}
+
+pub entry-range : (p : ℕ) → 0 < p → (T v : ℕ) → T ≤ (p - 1) / 2 → v < p
+    → leb (natAbs (signedEntry p v)) T ≡ ltb ((v + T) % p) (2 * T + 1)
+entry-range p above T v h k =
+    elim (decLe v ((p - 1) / 2)) [
+      | yes low ↦
+          let small : v + T < p = omega arith in
+          rw (entry-low p above v low, mod-eq-of-lt small)
+          (elim (decLe v T) [
+            | yes le ↦ le-leb v T le ∙ sym (lt-ltb (v + T) (2 * T + 1) (omega arith))
+            | no gt ↦ lt-leb v T (omega arith) ∙ sym (le-ltb (v + T) (2 * T + 1) (omega arith))
+          ])
+      | no high ↦
+          rw (entry-high p above v (omega arith) k)
+          (elim (decLe p (v + T)) [
+            | yes le ↦
+                le-leb (suc (p - suc v)) T (omega arith)
+                ∙ sym (rw (mod-once p (v + T) le (omega arith)) (lt-ltb (v + T - p) (2 * T + 1) (omega arith)))
+            | no gt ↦
+                let small : v + T < p = omega arith in
+                lt-leb (suc (p - suc v)) T (omega arith)
+                ∙ sym (rw (mod-eq-of-lt small) (le-ltb (v + T) (2 * T + 1) (omega arith)))
+          ])
+    ]
+
+-- the form of the code for a part, with the range tested by a shift
+pub record MakesTests (F : Form) (P : Part) : Type 0 where
+  pub kind : F .kind ≡ P .kind
+  pub rows : F .rows ≡ P .rows
+  pub columns : F .columns ≡ P .columns
+  pub outside : F .outside ≡ P .outside
+  pub range : (v : ℕ) → v < modulus → ltb ((v + F .shift) % modulus) (F .limit) ≡ P .range v
+  pub ranged : Ranged F
+
+module _ {G : Setting} (numbers : Numbers G) where
+  entries : (v : ℕ) → v < modulus → ltb ((v + G .bound) % modulus) (2 * G .bound + 1) ≡ isEntry (G .bound) v
+  unfolding isEntry
+  entries v l = sym (entry-range modulus modulus-positive (G .bound) v (omega (arith, modulus-above)) l)
+
+  pub forms-make : (w : ℕ) → w < 4 → MakesTests (formOf G w) (part G w)
+  unfolding formsOf formOf parts part shiftedQuotient
+  forms-make zero m =
+      record {
+        kind = refl;
+        rows = refl;
+        columns = refl;
+        outside = refl;
+        range = entries;
+        ranged = record { shift = omega arith; limit = omega (arith, modulus-above) };
+      }
+  forms-make (suc zero) m =
+      record {
+        kind = refl;
+        rows = refl;
+        columns = refl;
+        outside = refl;
+        range = entries;
+        ranged = record { shift = omega arith; limit = omega (arith, modulus-above) };
+      }
+  forms-make (suc (suc zero)) m =
+      record {
+        kind = refl;
+        rows = refl;
+        columns = refl;
+        outside = refl;
+        range = λ v l. rw (half-double {G = G} numbers);
+        ranged = record { shift = omega arith; limit = omega (arith, half-small {G = G} numbers, modulus-above) };
+      }
+  forms-make (suc (suc (suc zero))) m =
+      record {
+        kind = refl;
+        rows = refl;
+        columns = refl;
+        outside = refl;
+        range = λ v l. ap (λ n. ltb n (G .scale)) (ap (λ n. n % modulus) (omega arith) ∙ mod-eq-of-lt l);
+        ranged = record { shift = omega arith; limit = omega (arith, modulus-above) };
+      }
+  forms-make (suc (suc (suc (suc w)))) m = absurd (omega arith)
+
+-- the range of a value matters only where the value is below p
+number-range : (form : Bool) (value : ℕ) (a b : Bool) (outside : ℕ) → (value < modulus → a ≡ b) → let before : List Test = [] in
+    firstFailed (record { holds = form; number = 5 } ∷ record { holds = ltb value modulus; number = 6 } ∷ record { holds = a; number = outside } ∷ before)
+    ≡ firstFailed (record { holds = form; number = 5 } ∷ record { holds = ltb value modulus; number = 6 } ∷ record { holds = b; number = outside } ∷ before)
+unfolding firstFailed
+number-range form value a b outside h =
+    elim (decLe modulus value) [
+      | yes large ↦ rw (le-ltb value modulus large)
+      | no small ↦ rw (h (omega arith))
+    ]
+
+-- setting and length pass
+pub record ReadReady (G : Setting) (t : List ℕ) : Type 0 where
+  pub counts : Counts G
+  pub numbers : Numbers G
+  pub long : length t ≡ ticketLength G
+
+pub record PartReady (G : Setting) (t : List ℕ) (w : ℕ) : Type 0 where
+  pub ready : ReadReady G t
+  pub known : w < 4
+
+unfoldable pub partRead : Setting → List ℕ → ℕ → Answer
+partRead G t w = partAnswer (formOf G w) (start G w) (partBytes G t w)
+
+abbrev pub ReadTo : Setting → List ℕ → ℕ → Answer → Type 0
+ReadTo G t w a = a ≡ firstRefusal 0 (start G w) (recordNumber G t)
+
+module _ (G : Setting) (t : List ℕ) where
+  pub read-none : ReadTo G t 0 (refusal 0 0)
+  read-none = sym (refusal-none 0 (start G 0) (recordNumber G t) (λ k l. absurd (omega (arith, start-none G))))
+
+  pub read-all : {a : Answer} → ReadTo G t 4 a → a ≡ firstRefusal 0 (records G) (recordNumber G t)
+  read-all e = e ∙ ap (λ n. firstRefusal 0 n (recordNumber G t)) (records-end G (omega (arith, parts-are G .four)))
+
+  module _ {w : ℕ} (ready : PartReady G t w) where
+    makes : MakesTests (formOf G w) (part G w)
+    makes = forms-make (ready .ready .numbers) w (ready .known)
+
+    -- record i of the part, by the form of the code
+    tested-part : (i : ℕ) → i < partSize (part G w) → tested (partBytes G t w) (formOf G w) i ≡ recordNumber G t (start G w + i)
+    unfolding testedAt recordTests partTests
+    tested-part i m =
+        let P = part G w in
+        let value = valueAt t (start G w + i) in
+        let index : start G w + i - start G w ≡ i = omega arith in
+        rw (
+          holder-at G m,
+          index,
+          makes .kind,
+          makes .columns,
+          makes .outside,
+          form-of-part G t w m (P .kind) (i / P .columns) (i % P .columns),
+          value-of-part G t w m,
+        )
+        (number-range (formed t (start G w + i) (P .kind) (i / P .columns) (i % P .columns)) value
+        (ltb ((value + formOf G w .shift) % modulus) (formOf G w .limit)) (P .range value) (P .outside) (makes .range value))
+
+    part-numbers : partRead G t w ≡ firstRefusal (start G w) (partSize (part G w)) (λ i. recordNumber G t (start G w + i))
+    unfolding partRead
+    part-numbers =
+        ap (λ n. firstRefusal (start G w) n (tested (partBytes G t w) (formOf G w))) (rw (makes .rows, makes .columns))
+        ∙ refusal-cong (start G w) (partSize (part G w)) _ _ tested-part
+
+    pub read-next : {a b : Answer} → ReadTo G t w a → b ≡ after a (partRead G t w) → ReadTo G t (w + 1) b
+    read-next {a} {b} a-is b-is =
+        b-is ∙ rw (a-is, part-numbers)
+        (sym (ap (λ n. firstRefusal 0 n (recordNumber G t)) (start-next G w)
+        ∙ refusal-split 0 (start G w) (partSize (part G w)) (recordNumber G t)
+        ∙ ap (λ n. after (firstRefusal 0 (start G w) (recordNumber G t))
+        (firstRefusal n (partSize (part G w)) (λ i. recordNumber G t (start G w + i)))) (omega arith)))

@@ -1,0 +1,91 @@
+-- The tests of a record as the code makes them without a branch: a value is in range where it is none of some numbers.
+--
+--   passingAt b F k r c   record k of b passes all its tests, standing in row r, column c
+--   passing b F k         the same, the row and the column from k
+--   rowPassing b F a r c  the same of the record in row r, column c, where record a is the first of the row
+--   range-by              a value below p is in range exactly when, by a difference that wraps, it is none of the numbers between the
+--                         two ends of the range
+--   record-passing        a record's tests as the code makes them
+--   rows-passing          the records up to the end of a row pass
+--   passed-part           all records pass: the answer of the part
+use Prim.Native.Nat.{ℕ, _+_, _-_, _*_, _/_, _%_, _^_, _<_}
+use native.Mathlib.Decide.{decLe}
+use native.Mathlib.Nat.{mod-eq-of-lt}
+use native.Mathlib.Omega.{arith}
+use mathlib.Core.Path.{_≡_, sym, ap, _∙_}
+use mathlib.Core.Bool.{Bool, true, _&&_, and-false}
+use mathlib.Core.List.{List}
+use borrow.Author.Tests.{le-leb, lt-leb, le-ltb, lt-ltb}
+use lib.Arith.{digits-div, digits-mod}
+use lib.Dec.{leb, ltb}
+use Rattle.residue.specs.Rules.{modulus}
+use Rattle.residue.specs.Laws.Modulo.{mod-once}
+use Rattle.residue.specs.Laws.Modulus.{modulus-below}
+use Rattle.ticket.specs.Rules.{formed, valueAt, refusal}
+use Rattle.ticket.specs.Laws.All.{all, all-at, all-cong, all-split}
+use Rattle.ticket.specs.Laws.Limits.{both}
+use Rattle.ticket.specs.Laws.Forms.{testedAt, tested, partAnswer, Ranged}
+use Rattle.ticket.specs.Laws.Scans.{refusal-none}
+use Rattle.ticket.specs.Laws.Tests.{none, one, holding-number}
+use Rattle.ticket.specs.declared.records.Form.{Form}
+
+unfoldable pub passingAt : List ℕ → Form → ℕ → ℕ → ℕ → Bool
+passingAt b F k row column = formed b k (F .kind) row column && ltb (valueAt b k) modulus && ltb ((valueAt b k + F .shift) % modulus) (F .limit)
+
+abbrev pub passing : List ℕ → Form → ℕ → Bool
+passing b F k = passingAt b F k (k / F .columns) (k % F .columns)
+
+abbrev pub rowPassing : List ℕ → Form → ℕ → ℕ → ℕ → Bool
+rowPassing b F start row column = passingAt b F (start + column) row column
+
+pub range-by : (F : Form) → Ranged F → (v difference : ℕ) → v < modulus → difference < 2 ^ 32
+    → (difference + (F .limit - F .shift)) % 2 ^ 32 ≡ v
+    → leb (modulus - F .limit) difference ≡ ltb ((v + F .shift) % modulus) (F .limit)
+range-by F range v difference l ds e =
+    let order = range .shift in
+    let small = range .limit in
+    let p = modulus-below in
+    elim (decLe modulus (v + F .shift)) [
+      | yes h ↦
+          rw (mod-once modulus (v + F .shift) h (omega arith), lt-ltb (v + F .shift - modulus) (F .limit) (omega arith))
+          (le-leb (modulus - F .limit) difference (omega arith))
+      | no h ↦
+          let below : v + F .shift < modulus = omega arith in
+          rw (mod-eq-of-lt below)
+          (elim (decLe (F .limit) (v + F .shift)) [
+            | yes h ↦ rw (le-ltb (v + F .shift) (F .limit) h) (lt-leb (modulus - F .limit) difference (omega arith))
+            | no h ↦ rw (lt-ltb (v + F .shift) (F .limit) (omega arith)) (le-leb (modulus - F .limit) difference (omega arith))
+          ])
+    ]
+
+module _ (b : List ℕ) (F : Form) (k row column : ℕ) (range : Ranged F) where
+  pub record-passing : {form least : Bool} {p v difference : ℕ}
+      → form ≡ formed b k (F .kind) row column → v ≡ valueAt b k → least ≡ ltb v modulus → p ≡ modulus
+      → difference < 2 ^ 32 → (difference + (F .limit - F .shift)) % 2 ^ 32 ≡ v
+      → (form && least && leb (p - F .limit) difference) ≡ passingAt b F k row column
+  unfolding passingAt
+  record-passing {form} {least} {p} {v} {difference} ef ev el ep ds e =
+      elim (decLe modulus v) [
+        | yes h ↦ rw (← ev, el, le-ltb v modulus h, and-false form, and-false (formed b k (F .kind) row column))
+        | no h ↦ rw (ef, ← ev, el, ep) (ap (λ t. formed b k (F .kind) row column && ltb v modulus && t) (range-by F range v difference (omega arith) ds e))
+      ]
+
+pub rows-passing : (b : List ℕ) (F : Form) (row : ℕ) {start : ℕ} {before here : Bool} → start ≡ row * F .columns
+    → before ≡ all start (passing b F)
+    → here ≡ all (F .columns) (rowPassing b F start row)
+    → (before && here) ≡ all (start + F .columns) (passing b F)
+rows-passing b F row {start} s e h =
+    let n = F .columns in
+    let row-is = all-cong n (rowPassing b F start row) (λ k. passing b F (start + k)) (λ k l. sym (rw (s, digits-div row l, digits-mod row l))) in
+    rw (e, h, row-is) (sym (all-split start n (passing b F)))
+
+pub passed-part : (b : List ℕ) (F : Form) (start : ℕ) {passed : Bool} → passed ≡ all (F .rows * F .columns) (passing b F) → passed ≡ true
+    → refusal 0 0 ≡ partAnswer F start b
+unfolding passingAt testedAt
+passed-part b F start e t =
+    sym (refusal-none start (F .rows * F .columns) (tested b F) (λ k l.
+    let form = formed b k (F .kind) (k / F .columns) (k % F .columns) in
+    let two = both (form && ltb (valueAt b k) modulus) (ltb ((valueAt b k + F .shift) % modulus) (F .limit))
+    (all-at (F .rows * F .columns) (passing b F) (sym e ∙ t) k l) in
+    let first = both form (ltb (valueAt b k) modulus) (two .0) in
+    holding-number (one (first .0) (one (first .1) (one (two .1) none)))))

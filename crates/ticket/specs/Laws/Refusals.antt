@@ -1,0 +1,146 @@
+-- Every number from 1 to 9 is given exactly when its condition holds and no earlier test fails (T3).
+--
+--   PassedTo G t k         the setting and the length pass, and every record before k does
+--   Refused G t c k        the condition of the number c with the place k, no earlier test failing: the first test of the setting that
+--                          fails, the length, or the first test that fails of the first record that does not pass
+--   passed-reading         where all tests pass, reading answers 0
+--   refused-reading        where the condition of a number holds, reading answers that number
+--   wrong-length           reading of a ticket of another length
+--   passed-or-refused      one of the two is so
+--   refused-number         the number of a refusal is 1 to 9
+--   reading-zero-exactly   reading answers 0 exactly when all tests pass
+--   refusal-exactly        reading refuses with a number and a place exactly under their condition
+--   reading-form           row and products of reading's answer are 0
+--   ReadingRow G a         the answer a is a row of the published table with a number from 1 to 9, within its bounds
+--   refused-in-table       every refusal is one
+use Prim.Native.Nat.{ℕ, zero, suc, _+_, _≤_, _<_}
+use native.Mathlib.Decide.{ℕ-discrete}
+use native.Mathlib.Omega.{arith}
+use mathlib.Core.Path.{_≡_, refl, sym, ap, _∙_}
+use mathlib.Core.Logic.{_⊎_, inl, inr, ⊎-elim, _↔_}
+use mathlib.Core.List.{List}
+use borrow.Author.Tests.{eq-eqb, ne-eqb}
+use lib.ListN.{length}
+use Rattle.ticket.specs.declared.setting.Setting.{Setting}
+use Rattle.ticket.specs.declared.Answer.{Answer}
+use Rattle.ticket.specs.Rules.{refusal, settingTests, settingNumber, part, partSize, start, records, ticketLength, recordTests, recordNumber, firstRefusal, after, recordsReading, reading}
+use Rattle.ticket.specs.Laws.Tests.{AllHold, Failed, here, later, hold-or-failed, holding-number, failed-number, failed-within}
+use Rattle.ticket.specs.Laws.Limits.{setting-numbered}
+use Rattle.ticket.specs.Laws.Layout.{located-at, locatedTests, tests-located}
+use Rattle.ticket.specs.Laws.Passes.{record-numbered}
+use Rattle.ticket.specs.Laws.Scans.{refusal-none, refusal-is, after-passed, after-refused}
+
+pub record PassedTo (G : Setting) (t : List ℕ) (k : ℕ) : Type 0 where
+  pub setting : AllHold (settingTests G)
+  pub long : length t ≡ ticketLength G
+  pub before : (i : ℕ) → i < k → AllHold (recordTests G t i)
+
+pub data Refused (G : Setting) (t : List ℕ) : ℕ → ℕ → Type 0 where
+  by-setting : {c : ℕ} → Failed (settingTests G) c → Refused G t c 0
+  by-length : AllHold (settingTests G) → (length t ≡ ticketLength G → ⊥) → Refused G t 4 0
+  by-record : {c k : ℕ} → PassedTo G t k → k < records G → Failed (recordTests G t k) c → Refused G t c k
+
+module _ (G : Setting) (t : List ℕ) where
+  pub refused-number : {c k : ℕ} → Refused G t c k → (1 ≤ c) × (c ≤ 9)
+  refused-number (by-setting f) = let n = failed-within (settingTests G) (setting-numbered G) f in (omega arith, omega arith)
+  refused-number (by-length s d) = (omega arith, omega arith)
+  refused-number (by-record {k = k} p l f) = let n = failed-within (recordTests G t k) (record-numbered G t l) f in (omega arith, omega arith)
+
+  setting-passed : AllHold (settingTests G) → reading G t ≡ recordsReading G t
+  unfolding reading
+  setting-passed s = after-passed (refusal (settingNumber G) 0) (recordsReading G t) (holding-number s)
+
+  records-read : {k : ℕ} → PassedTo G t k → reading G t ≡ firstRefusal 0 (records G) (recordNumber G t)
+  unfolding recordsReading
+  records-read p = setting-passed (p .setting) ∙ rw (eq-eqb (length t) (ticketLength G) (p .long))
+
+  pub passed-reading : PassedTo G t (records G) → reading G t ≡ refusal 0 0
+  passed-reading p = records-read p ∙ refusal-none 0 (records G) (recordNumber G t) (λ k l. holding-number (p .before k l))
+
+  pub refused-reading : {c k : ℕ} → Refused G t c k → reading G t ≡ refusal c k
+  unfolding reading recordsReading
+  refused-reading (by-setting f) =
+      let number : settingNumber G ≡ _ = failed-number f in
+      after-refused (refusal (settingNumber G) 0) (recordsReading G t)
+      (λ z. omega (arith, failed-within (settingTests G) (setting-numbered G) f))
+      ∙ ap (λ c. refusal c 0) number
+  refused-reading (by-length s d) = setting-passed s ∙ rw (ne-eqb (length t) (ticketLength G) d)
+  refused-reading (by-record {c} {k} p l f) =
+      let number : recordNumber G t k ≡ c = failed-number f in
+      records-read p
+      ∙ refusal-is 0 (records G) k (recordNumber G t) l (λ i m. holding-number (p .before i m))
+      (λ z. omega (arith, failed-within (recordTests G t k) (record-numbered G t l) f))
+      ∙ ap (λ c. refusal c (0 + k)) number ∙ ap (refusal c) (omega arith)
+
+  pub wrong-length : (length t ≡ ticketLength G → ⊥) → reading G t ≡ after (refusal (settingNumber G) 0) (refusal 4 0)
+  unfolding reading recordsReading
+  wrong-length d = rw (ne-eqb (length t) (ticketLength G) d)
+
+  passed-to-or-refused : PassedTo G t 0 → (n : ℕ) → n ≤ records G → PassedTo G t n ⊎ ((c : ℕ) × (k : ℕ) × Refused G t c k)
+  passed-to-or-refused none zero l = inl none
+  passed-to-or-refused none (suc n) l =
+      ⊎-elim
+      (λ p. ⊎-elim
+      (λ r. inl (record {
+        setting = p .setting;
+        long = p .long;
+        before = λ i m. elim (ℕ-discrete i n) [ yes e ↦ rw e r | no d ↦ p .before i (omega arith) ];
+      }))
+      (λ f. inr (f .0, n, by-record p (omega arith) (f .1)))
+      (hold-or-failed (recordTests G t n)))
+      inr
+      (passed-to-or-refused none n (omega arith))
+
+  pub passed-or-refused : PassedTo G t (records G) ⊎ ((c : ℕ) × (k : ℕ) × Refused G t c k)
+  passed-or-refused =
+      ⊎-elim
+      (λ s. elim (ℕ-discrete (length t) (ticketLength G)) [
+        | yes e ↦
+            passed-to-or-refused (record { setting = s; long = e; before = λ i m. absurd (omega arith) }) (records G) (omega arith)
+        | no d ↦ inr (4, 0, by-length s d)
+      ])
+      (λ f. inr (f .0, 0, by-setting (f .1)))
+      (hold-or-failed (settingTests G))
+
+  pub reading-zero-exactly : (reading G t ≡ refusal 0 0) ↔ PassedTo G t (records G)
+  reading-zero-exactly = (
+    λ e. ⊎-elim (λ p. p)
+        (λ x. absurd (omega (arith, refused-number (x .2), ap (λ a. a .number) (sym (refused-reading (x .2)) ∙ e))))
+        passed-or-refused,
+    passed-reading,
+  )
+
+  pub refusal-exactly : (c k : ℕ) → (c ≡ 0 → ⊥) → (reading G t ≡ refusal c k) ↔ Refused G t c k
+  refusal-exactly c k d = (
+    λ e. ⊎-elim
+        (λ p. absurd (d (ap (λ a. a .number) (sym e ∙ passed-reading p))))
+        (λ x. let same = sym (refused-reading (x .2)) ∙ e in
+        let number : x .0 ≡ c = ap (λ a. a .number) same in
+        let place : x .1 ≡ k = ap (λ a. a .place) same in
+        rw number at (rw place at (x .2)))
+        passed-or-refused,
+    refused-reading,
+  )
+
+  pub reading-form : reading G t ≡ refusal (reading G t .number) (reading G t .place)
+  reading-form = ⊎-elim (λ p. rw (passed-reading p)) (λ x. rw (refused-reading (x .2))) passed-or-refused
+
+pub data ReadingRow (G : Setting) : Answer → Type 0 where
+  setting-or-length-row : (c : ℕ) → 1 ≤ c → c ≤ 4 → ReadingRow G (refusal c 0)
+  record-row : (c k : ℕ) → 5 ≤ c → c ≤ 6 → k < records G → ReadingRow G (refusal c k)
+  range-row : (w k : ℕ) → start G w ≤ k → k < start G w + partSize (part G w) → ReadingRow G (refusal (part G w .outside) k)
+
+-- the first of the three tests of a record that fails is one of them
+record-in-table : (G : Setting) (t : List ℕ) (k w row column : ℕ) → k < records G → start G w ≤ k → k < start G w + partSize (part G w)
+    → {c : ℕ} → Failed (locatedTests G t k w row column) c → ReadingRow G (refusal c k)
+record-in-table G t k w row column l from below (here e) = record-row 5 k (omega arith) (omega arith) l
+record-in-table G t k w row column l from below (later a (here e)) = record-row 6 k (omega arith) (omega arith) l
+record-in-table G t k w row column l from below (later a (later b (here e))) = range-row w k from below
+
+pub refused-in-table : {G : Setting} {t : List ℕ} {c k : ℕ} → Refused G t c k → ReadingRow G (refusal c k)
+refused-in-table {G} {c = c} (by-setting f) =
+    let n = failed-within (settingTests G) (setting-numbered G) f in setting-or-length-row c (n .0) (omega arith)
+refused-in-table (by-length s d) = setting-or-length-row 4 (omega arith) (omega arith)
+refused-in-table {G} {t} (by-record {k = k} p l f) =
+    let at = located-at G k l in
+    record-in-table G t k (at .0) _ _ l (at .1 .from) (at .1 .below) (rw (tests-located t (at .2)) at f)

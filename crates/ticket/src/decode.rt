@@ -1,0 +1,97 @@
+// What the records of a ticket are decoded to, for loops over many of them: lists of bare numbers, filled as far as the records and
+// the list go. A shift is added to each value modulo p, so that what a value in range stands for is not negative: one comparison,
+// where the value is a least residue. What comes of other values is fixed too, and means nothing.
+ghost use mathlib.Core.Path.{_≡_};
+ghost use Prim.Native.Nat.{_+_, _-_, _*_, _≤_, _%_, _^_};
+ghost use lib.IntN.{pos, _-ℤ_};
+ghost use lib.ListN.{length};
+ghost use Rattle.residue.specs.Rules.{modulus};
+ghost use Rattle.residue.specs.Laws.Modulo.{sumOnce};
+ghost use Rattle.algebra.specs.Laws.Fills.{Filled};
+ghost use Rattle.ticket.specs.Laws.Decodes.{decodedCount, claimCount, shiftedAt, narrowShift, narrowed, narrowAt, liftedAt};
+use crate::parts::RECORD;
+use crate::parts::fewer;
+use crate::parts::value_at;
+use residue::Entry;
+use residue::Residue;
+
+// 2^32
+const WORD: u64 = 4_294_967_296;
+
+// 2^15, by which 16-bit entries are shifted
+const NARROW: u32 = 32_768;
+
+// The values of records, each with a shift added.
+pub fn shifted_entries(records: &[u8], shift: Residue, list: &mut [u32])
+    ensures { λ r. ⌜ Filled 0 (now (list .entry)) (decodedCount (now (records .entry)) (length (now (list .entry)))) (shiftedAt (now (records .entry)) (shift .0)) (now (list .exit)) ⌝ }
+{
+    let shift = shift.0 % Residue::modulus();
+    let low = Residue::modulus() - shift;
+    let count = fewer(records.len() / RECORD, list.len());
+    let mut k = 0;
+    while k < count {
+        list[k] = shifted(value_at(records, k), shift, low).0;
+        k += 1;
+    }
+}
+
+// The entries that the values of records stand for, where these are 16-bit numbers.
+pub fn narrow_entries(records: &[u8], list: &mut [i16])
+    ensures { λ r. ⌜ Filled (pos 0) (now (list .entry)) (decodedCount (now (records .entry)) (length (now (list .entry)))) (narrowAt (now (records .entry))) (now (list .exit)) ⌝ }
+{
+    let low = Residue::modulus() - NARROW;
+    let count = fewer(records.len() / RECORD, list.len());
+    let mut k = 0;
+    while k < count {
+        list[k] = entry(shifted(value_at(records, k), NARROW, low)).0 as i16;
+        k += 1;
+    }
+}
+
+// What claims put for their sums, lifted: the shifted quotient times the scale, and the remainder.
+pub fn lifted_claims(
+    quotients: &[u8],
+    remainders: &[u8],
+    half: Residue,
+    scale: u32,
+    list: &mut [u32],
+)
+    ensures { λ r. ⌜ Filled 0 (now (list .entry)) (claimCount (now (quotients .entry)) (now (remainders .entry)) (length (now (list .entry)))) (liftedAt (now (quotients .entry)) (now (remainders .entry)) (half .0) scale) (now (list .exit)) ⌝ }
+{
+    let shift = half.0 % Residue::modulus();
+    let low = Residue::modulus() - shift;
+    let claims = fewer(quotients.len() / RECORD, remainders.len() / RECORD);
+    let count = fewer(claims, list.len());
+    let mut c = 0;
+    while c < count {
+        let quotient = shifted(value_at(quotients, c), shift, low);
+        list[c] = lifted(quotient, scale, value_at(remainders, c));
+        c += 1;
+    }
+}
+
+// A value with a shift added modulo p; low is p less the shift.
+fn shifted(value: Residue, shift: u32, low: u32) -> Residue
+    requires { ⌜ (shift ≤ modulus) × (low ≡ modulus - shift) ⌝ }
+    ensures { λ r. ⌜ r .0 ≡ sumOnce modulus (value .0) shift ⌝ }
+{
+    if value.0 < low {
+        return Residue(value.0 + shift);
+    }
+    Residue(value.0 - low)
+}
+
+// The entry of 16 bits whose value, shifted by 2^15, this is.
+fn entry(shifted: Residue) -> Entry
+    ensures { λ r. ⌜ r .0 ≡ narrowed (shifted .0) ⌝ }
+{
+    Entry(((shifted.0 % 65_536) as i32) - (NARROW as i32))
+}
+
+// A shifted quotient times the scale and a remainder, modulo 2^32.
+fn lifted(quotient: Residue, scale: u32, remainder: Residue) -> u32
+    ensures { λ r. ⌜ r ≡ (quotient .0 * scale + remainder .0) % 2 ^ 32 ⌝ }
+{
+    let whole = (quotient.0 as u64) * (scale as u64) + (remainder.0 as u64);
+    (whole % WORD) as u32
+}
