@@ -26,11 +26,10 @@ pub fn shifted_entries(records: &[u8], shift: Residue, list: &mut [u32])
     ensures { λ r. ⌜ Filled 0 (now (list .entry)) (decodedCount (now (records .entry)) (length (now (list .entry)))) (shiftedAt (now (records .entry)) (shift .0)) (now (list .exit)) ⌝ }
 {
     let shift = shift.0 % Residue::modulus();
-    let low = Residue::modulus() - shift;
     let count = fewer(records.len() / RECORD, list.len());
     let mut k = 0;
     while k < count {
-        list[k] = shifted(value_at(records, k), shift, low).0;
+        list[k] = shifted(value_at(records, k), shift).0;
         k += 1;
     }
 }
@@ -39,11 +38,10 @@ pub fn shifted_entries(records: &[u8], shift: Residue, list: &mut [u32])
 pub fn narrow_entries(records: &[u8], list: &mut [i16])
     ensures { λ r. ⌜ Filled (pos 0) (now (list .entry)) (decodedCount (now (records .entry)) (length (now (list .entry)))) (narrowAt (now (records .entry))) (now (list .exit)) ⌝ }
 {
-    let low = Residue::modulus() - NARROW;
     let count = fewer(records.len() / RECORD, list.len());
     let mut k = 0;
     while k < count {
-        list[k] = entry(shifted(value_at(records, k), NARROW, low)).0 as i16;
+        list[k] = entry(shifted(value_at(records, k), NARROW)).0 as i16;
         k += 1;
     }
 }
@@ -59,22 +57,22 @@ pub fn lifted_claims(
     ensures { λ r. ⌜ Filled 0 (now (list .entry)) (claimCount (now (quotients .entry)) (now (remainders .entry)) (length (now (list .entry)))) (liftedAt (now (quotients .entry)) (now (remainders .entry)) (half .0) scale) (now (list .exit)) ⌝ }
 {
     let shift = half.0 % Residue::modulus();
-    let low = Residue::modulus() - shift;
     let claims = fewer(quotients.len() / RECORD, remainders.len() / RECORD);
     let count = fewer(claims, list.len());
     let mut c = 0;
     while c < count {
-        let quotient = shifted(value_at(quotients, c), shift, low);
+        let quotient = shifted(value_at(quotients, c), shift);
         list[c] = lifted(quotient, scale, value_at(remainders, c));
         c += 1;
     }
 }
 
-// A value with a shift added modulo p; low is p less the shift.
-fn shifted(value: Residue, shift: u32, low: u32) -> Residue
-    requires { ⌜ (shift ≤ modulus) × (low ≡ modulus - shift) ⌝ }
+// A value with a shift added modulo p.
+fn shifted(value: Residue, shift: u32) -> Residue
+    requires { ⌜ shift ≤ modulus ⌝ }
     ensures { λ r. ⌜ r .0 ≡ sumOnce modulus (value .0) shift ⌝ }
 {
+    let low = Residue::modulus() - shift;
     if value.0 < low {
         return Residue(value.0 + shift);
     }

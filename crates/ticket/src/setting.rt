@@ -3,7 +3,7 @@
 ghost use mathlib.Core.Path.{_≡_};
 ghost use Prim.Native.Nat.{min};
 ghost use Rattle.ticket.specs.Rules.{settingNumber, sizesWithin, numbersWithin, fits, within, part, partSize, start, ticketLength, halfRange, lift, sumProducts};
-ghost use Rattle.ticket.specs.Laws.Limits.{Sizes, Numbers, clamped};
+ghost use Rattle.ticket.specs.Laws.Limits.{Sizes, Numbers, Clamped, clamped};
 use crate::parts::RECORD;
 use residue::Residue;
 
@@ -81,17 +81,16 @@ impl Setting {
     pub fn size(self, which: PartNumber) -> u32
         ensures { λ r. ⌜ r ≡ partSize (part (clamped self) (which .0)) ⌝ }
     {
-        let rows = least(self.rows, Setting::MOST_ROWS);
-        let inner = least(self.inner, Setting::MOST_INNER);
-        let columns = least(self.columns, Setting::MOST_COLUMNS);
-        if which.0 == 0 {
-            return rows * inner;
+        let part = which.0;
+        let s = self.clamped();
+        if part == 0 {
+            return s.rows * s.inner;
         }
-        if which.0 == 1 {
-            return inner * columns;
+        if part == 1 {
+            return s.inner * s.columns;
         }
-        if which.0 < 4 {
-            return rows * columns;
+        if part < 4 {
+            return s.rows * s.columns;
         }
         0
     }
@@ -100,22 +99,24 @@ impl Setting {
     pub fn start(self, which: PartNumber) -> u32
         ensures { λ r. ⌜ r ≡ start (clamped self) (which .0) ⌝ }
     {
-        let a = self.size(PartNumber::A);
-        let b = self.size(PartNumber::B);
-        let quotients = self.size(PartNumber::QUOTIENTS);
-        if which.0 == 0 {
+        let part = which.0;
+        let b = self.size(PartNumber::A);
+        let quotients = b + self.size(PartNumber::B);
+        let remainders = quotients + self.size(PartNumber::QUOTIENTS);
+        let end = remainders + self.size(PartNumber::REMAINDERS);
+        if part == 0 {
             return 0;
         }
-        if which.0 == 1 {
-            return a;
+        if part == 1 {
+            return b;
         }
-        if which.0 == 2 {
-            return a + b;
+        if part == 2 {
+            return quotients;
         }
-        if which.0 == 3 {
-            return a + b + quotients;
+        if part == 3 {
+            return remainders;
         }
-        a + b + quotients + self.size(PartNumber::REMAINDERS)
+        end
     }
 
     // How many bytes a ticket has.
@@ -129,7 +130,7 @@ impl Setting {
     pub fn half(self) -> Residue
         ensures { λ r. ⌜ r .0 ≡ halfRange (clamped self) ⌝ }
     {
-        let width = least(self.width, Setting::MOST_WIDTH);
+        let width = self.clamped().width;
         if width == 0 {
             return Residue::ONE;
         }
@@ -140,14 +141,29 @@ impl Setting {
     pub fn lift(self) -> u64
         ensures { λ r. ⌜ r ≡ lift (clamped self) ⌝ }
     {
-        (self.half().0 as u64) * (least(self.scale, Setting::MOST_SCALE) as u64)
+        (self.half().0 as u64) * (self.clamped().scale as u64)
     }
 
     // How many products all sums take.
     pub fn products(self) -> u32
         ensures { λ r. ⌜ r ≡ sumProducts (clamped self) ⌝ }
     {
-        self.size(PartNumber::A) * least(self.columns, Setting::MOST_COLUMNS)
+        self.size(PartNumber::A) * self.clamped().columns
+    }
+
+    // The setting with no number above its limit, of those that the calls above make sizes and shifts of.
+    fn clamped(self) -> Setting
+        ensures { λ r. ⌜ (r ≡ clamped self) × Clamped r ⌝ }
+    {
+        Setting {
+            rows: least(self.rows, Setting::MOST_ROWS),
+            inner: least(self.inner, Setting::MOST_INNER),
+            columns: least(self.columns, Setting::MOST_COLUMNS),
+            vectors: self.vectors,
+            scale: least(self.scale, Setting::MOST_SCALE),
+            bound: self.bound,
+            width: least(self.width, Setting::MOST_WIDTH),
+        }
     }
 
     fn sizes_within(self) -> bool

@@ -7,6 +7,7 @@
 --   lifted-natural   it is then not negative, and fits as an unsigned number
 --   lifted-residue   its least residue is that of z, where k is a multiple of p
 --   natural-is, natural-cast   a number that is not negative, read back, and cast to 32 bits without sign
+--   read-back, read-fits, read-stored   a number that fits is itself where it is read at a wider width, fits, and is stored as it was
 --   small-fits, small-fits-wide   a number of at most 15 bits fits 16 and 32 bits
 --   narrowed-is, narrowed-fits   read back from 32 bits, it is itself, and fits 16 bits
 use Prim.Native.Nat.{ℕ, suc, _+_, _-_, _*_, _^_, _≤_, _<_}
@@ -69,6 +70,18 @@ module _ {w : Width} {y : ℤ} {n : ℕ} (fits : SFits w y) (is : y ≡ pos n) w
   pub natural-cast : n < 2 ^ 32 → T (nonNeg (toZ w (ofZ w y))) × Fits w32 (natAbs (toZ w (ofZ w y)))
   natural-cast small = subst⁻¹ (λ z. T (nonNeg z) × Fits w32 (natAbs z)) (toZ-ofZ fits ∙ is) (tt, record { fits = small })
 
+-- a number that fits, read at a wider width and stored again
+
+module _ {narrow : Width} (wide : Width) {z : ℤ} (wider : T (leb (hbits narrow) (hbits wide))) (fits : SFits narrow z) where
+  pub read-back : toZ wide (ofZ wide z) ≡ z
+  read-back = toZ-ofZ (sfits-widen wider fits)
+
+  pub read-fits : SFits narrow (toZ wide (ofZ wide z))
+  read-fits = subst⁻¹ (SFits narrow) read-back fits
+
+  pub read-stored : toZ narrow (ofZ narrow (toZ wide (ofZ wide z))) ≡ z
+  read-stored = toZ-ofZ read-fits ∙ read-back
+
 -- a number of at most 15 bits, read back and cast to 16 bits
 
 pub small-fits : (z : ℤ) → natAbs z < 2 ^ 15 → SFits w16 z
@@ -79,7 +92,7 @@ pub small-fits-wide : (z : ℤ) → natAbs z < 2 ^ 15 → SFits w32 z
 small-fits-wide z small = sfits-widen tt (small-fits z small)
 
 pub narrowed-is : (z : ℤ) → natAbs z < 2 ^ 15 → toZ w32 (ofZ w32 z) ≡ z
-narrowed-is z small = toZ-ofZ (small-fits-wide z small)
+narrowed-is z small = read-back w32 tt (small-fits z small)
 
 pub narrowed-fits : (z : ℤ) → natAbs z < 2 ^ 15 → SFits w16 (toZ w32 (ofZ w32 z))
-narrowed-fits z small = subst⁻¹ (SFits w16) (narrowed-is z small) (small-fits z small)
+narrowed-fits z small = read-fits w32 tt (small-fits z small)

@@ -4,7 +4,7 @@
 --   shiftedAt b s k       the value of record k of b with s added modulo p, by one comparison
 --   narrowShift, narrowed x, narrowAt b k   2^15; the 16-bit number of a shifted value x; that of record k of b
 --   liftedAt q r h a c    the value of record c of q with h added modulo p, times a, and the value of record c of r, modulo 2^32
---   narrowed-fits         such a number has 16 bits
+--   narrow-fits           such a number has 16 bits
 --   shifted-entry         a value with at least its entry's size added is that entry, shifted
 --   Decodable G t w b     b are the bytes of part w, decoded whole
 --   decodable             so are those that the code takes from a ticket that passes
@@ -21,8 +21,10 @@ use mathlib.Core.List.{List}
 use lib.Arith.{digits-lt}
 use lib.IntN.{ℤ, pos, negsuc, natAbs, _+ℤ_, _-ℤ_, _*ℤ_}
 use lib.ListN.{length, getD}
+use mir.Syntax.{w16}
+use mir.Val.{SFits}
 use Rattle.residue.specs.Rules.{modulus, leastResidue, signedEntry}
-use Rattle.residue.specs.Laws.Integers.{positive, negative, equal-of-parts, parts-sum, parts-difference, parts-product, parts-within}
+use Rattle.residue.specs.Laws.Integers.{positive, negative, difference-of-naturals, equal-of-parts, parts-sum, parts-difference, parts-product, parts-within}
 use Rattle.residue.specs.Laws.Modulo.{sumOnce, sum-once, sum-once-low, sum-once-high}
 use Rattle.residue.specs.Laws.Modulus.{modulus-above, modulus-below, modulus-positive}
 use Rattle.residue.specs.Laws.Residues.{entry-low, entry-high}
@@ -57,6 +59,14 @@ narrowed shifted = pos (shifted % 65_536) -ℤ pos narrowShift
 
 abbrev pub narrowAt : List ℕ → ℕ → ℤ
 narrowAt bytes k = narrowed (sumOnce modulus (valueAt bytes k) narrowShift)
+
+pub narrow-fits : (shifted : ℕ) → SFits w16 (narrowed shifted)
+narrow-fits shifted =
+    from-parts (narrowed shifted) (shifted % 65_536) (difference-of-naturals (shifted % 65_536) narrowShift) (omega arith)
+  where
+    from-parts : (z : ℤ) (n : ℕ) → positive z + narrowShift ≡ n + negative z → n < 2 * narrowShift → SFits w16 z
+    from-parts (pos k) n e l = record { sfits = omega arith }
+    from-parts (negsuc k) n e l = record { sfits = omega arith }
 
 -- what that stands for
 

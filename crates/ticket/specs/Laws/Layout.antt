@@ -6,10 +6,13 @@
 --   records-end           past the last part there are no records
 --   holder-at, held       the part that holds a record
 --   PartsAre G, parts-are the sizes of the parts by name, and where each starts
+--   size-claims           the size of a part of claims
+--   size-past, start-past past the last part there are no records, and all come before
 --   length-is             how many bytes a ticket has
 --   longestTicket, length-most   the most bytes that a ticket within the limits has
 --   start-of-B            the part that holds B starts at byte 8 · rows · inner
 --   partBytes G t w       the bytes of part w
+--   bytes-cut             they are cut from the ticket, each end as far as the ticket goes
 --   part-bytes-long       how many they are, of a ticket that is long enough
 --   form-of-part, value-of-part   record i of a part is record start + i of the ticket
 --   Located G k w i j     record k is in part w, in row i, column j
@@ -18,9 +21,9 @@
 --   located-once          and at no other part, row or column
 --   locatedTests G t k w i j, tests-located   the tests of record k by its part, row and column
 --   value-in              the value in a row and a column of a part is that of its record
-use Prim.Native.Nat.{ℕ, zero, suc, _+_, _-_, _*_, _/_, _%_, _≤_, _<_}
-use native.Mathlib.Nat.{mod-lt, div-add-mod', div-lt-iff-lt-mul}
-use native.Mathlib.Decide.{decLe}
+use Prim.Native.Nat.{ℕ, zero, suc, _+_, _-_, _*_, _/_, _%_, _≤_, _<_, min}
+use native.Mathlib.Nat.{add-sub-cancel-left, min-eq-left, min-eq-right, mod-lt, div-add-mod', div-lt-iff-lt-mul}
+use native.Mathlib.Decide.{decLe, ℕ-discrete}
 use native.Mathlib.Numerals.{add-one}
 use native.Mathlib.Omega.{arith}
 use lib.Arith.{digits-div, digits-mod, digits-lt}
@@ -29,8 +32,8 @@ use mathlib.Core.Bool.{Bool}
 use mathlib.Core.List.{List, [], _∷_}
 use borrow.Author.Tests.{lt-ltb, le-ltb}
 use lib.Dec.{ltb}
-use lib.ListN.{length, getD, take, drop, length-drop}
-use lib.Seq.{take-all, getD-drop, getD-take, length-take-le}
+use lib.ListN.{length, getD, take, drop, length-drop, drop-of-length-le, List·getD-eq-default}
+use lib.Seq.{take-all, take-nil, take-length, drop-length, getD-drop, getD-take, length-take-le}
 use Rattle.residue.specs.Rules.{modulus}
 use Rattle.ticket.specs.declared.setting.Setting.{Setting}
 use Rattle.ticket.specs.Rules.{mostRows, mostInner, mostColumns, Test, test, Part, noPart, parts, part, partSize, count, start, records, recordBytes, ticketLength, holder, ofA, ofB, ofQuotients, ofRemainders, byteAt, valueAt, formed, partTests, recordTests, valueIn}
@@ -161,6 +164,18 @@ parts-are G =
       all = omega arith;
     }
 
+module _ (G : Setting) {w : ℕ} where
+  pub size-claims : 1 < w → w < 4 → partSize (part G w) ≡ G .rows * G .columns
+  unfolding parts part
+  size-claims low high = elim (ℕ-discrete w 2) [ yes two ↦ rw two | no other ↦ let three : w ≡ 3 = omega arith in rw three ]
+
+  pub size-past : 4 ≤ w → partSize (part G w) ≡ 0
+  unfolding part
+  size-past past = ap partSize (List·getD-eq-default (parts G) noPart (omega (arith, parts-are G .four)))
+
+  pub start-past : 4 ≤ w → start G w ≡ records G
+  start-past past = records-end G (omega (arith, parts-are G .four))
+
 pub length-is : (G : Setting) → ticketLength G ≡ 8 * (G .rows * G .inner + G .inner * G .columns + 2 * (G .rows * G .columns))
 unfolding ticketLength
 length-is G = ap (λ n. 8 * n) (parts-are G .all)
@@ -179,7 +194,29 @@ length-most {G} counts = omega (arith, length-is G)
 unfoldable pub partBytes : Setting → List ℕ → ℕ → List ℕ
 partBytes G t w = take (recordBytes * partSize (part G w)) (drop (recordBytes * start G w) t)
 
+-- a part of a list, from a place to another, as far as the list goes
+cut-within : (t : List ℕ) (a n : ℕ) → let L = length t in take (min (a + n) L - min a L) (drop (min a L) t) ≡ take n (drop a t)
+cut-within t a n =
+    elim (decLe (length t) a) [
+      | yes past ↦ rw (min-eq-right past, drop-length t, drop-of-length-le t past, take-nil) (sym (take-nil n))
+      | no inside ↦
+          let from : min a (length t) ≡ a = min-eq-left (omega arith) in
+          rw from
+          (elim (decLe (a + n) (length t)) [
+            | yes fits ↦ rw (min-eq-left fits, add-sub-cancel-left)
+            | no short ↦
+                let end : min (a + n) (length t) ≡ length t = min-eq-right (omega arith) in
+                let long : length (drop a t) ≤ n = omega (arith, length-drop a t) in
+                rw (end, ← length-drop a t, take-length) (sym (take-all n (drop a t) long))
+          ])
+    ]
+
 module _ (G : Setting) (t : List ℕ) (w : ℕ) where
+  pub bytes-cut : let a = recordBytes * start G w in let past = a + recordBytes * partSize (part G w) in
+      take (min past (length t) - min a (length t)) (drop (min a (length t)) t) ≡ partBytes G t w
+  unfolding partBytes
+  bytes-cut = cut-within t (recordBytes * start G w) (recordBytes * partSize (part G w))
+
   pub part-bytes-long : length t ≡ ticketLength G → length (partBytes G t w) ≡ recordBytes * partSize (part G w)
   unfolding partBytes ticketLength
   part-bytes-long long =

@@ -5,15 +5,17 @@
 --   Sizes G                the sizes are within their limits, as inequalities
 --   Numbers G              scale, bound and width are within theirs
 --   Fitted G               the setting fits, as inequalities
+--   sizes-of, numbers-of   the first two, from their tests
 --   Within G, limits-of    all three, from the tests of the setting
 --   setting-numbered       the numbers of the tests are 1 to 3
 --   Counts G, counts       how many records the parts have at most, numbers a challenge list, and products all sums
 --   half-small, half-double   half of the quotients' range is small, and twice that is the range
 --   FitProducts G, fit-products   the products of the test of the fit, none of them large
+--   lift-double            twice the lift, as the fit has it
 --   lift-small             twice the lift of a setting that fits is below p
 --   clamped G              the setting with no size, scale or width above its limit
 --   clamped-same           that is the setting itself, where it is within its limits
---   ClampedSizes G, clamped-sizes   the products of the sizes of a clamped setting are not large
+--   Clamped G, clamped-small   the width of a clamped setting is not large, nor are products of its numbers
 use Prim.Native.Nat.{ℕ, suc, _+_, _-_, _*_, _^_, _≤_, _<_, min}
 use native.Mathlib.Nat.{mul-le-mul, pow-suc, min-eq-left, min-le-right}
 use native.Mathlib.Omega.{arith}
@@ -76,7 +78,7 @@ counts {G} sizes =
       products = mul-le-mul (mul-le-mul (sizes .rows .1) (sizes .inner .1)) (sizes .columns .1);
     }
 
-sizes-of : (G : Setting) → sizesWithin G ≡ true → Sizes G
+pub sizes-of : (G : Setting) → sizesWithin G ≡ true → Sizes G
 unfolding sizesWithin
 sizes-of G e =
     let h = both (within 1 mostRows (G .rows) && within 1 mostInner (G .inner) && within 1 mostColumns (G .columns)) (within 1 mostVectors (G .vectors)) e in
@@ -89,7 +91,7 @@ sizes-of G e =
       vectors = within-both 1 mostVectors (G .vectors) (h .1);
     }
 
-numbers-of : (G : Setting) → numbersWithin G ≡ true → Numbers G
+pub numbers-of : (G : Setting) → numbersWithin G ≡ true → Numbers G
 unfolding numbersWithin
 numbers-of G e =
     let h = both (within 2 mostScale (G .scale) && within 1 mostBound (G .bound)) (within 1 mostWidth (G .width)) e in
@@ -142,8 +144,11 @@ fit-products {G} sizes numbers =
       lifted = mul-le-mul (half-small numbers) (numbers .scale .1);
     }
 
+pub lift-double : {G : Setting} → Numbers G → 2 * lift G ≡ 2 ^ G .width * G .scale
+lift-double {G} numbers = omega (arith, ap (λ n. n * G .scale) (half-double numbers))
+
 pub lift-small : {G : Setting} → Numbers G → Fitted G → 2 * lift G < modulus
-lift-small {G} numbers fitted = omega (arith, ap (λ n. n * G .scale) (half-double numbers), fitted .claims)
+lift-small numbers fitted = omega (arith, lift-double numbers, fitted .claims)
 
 -- total calls
 
@@ -170,16 +175,26 @@ clamped-same {G} sizes numbers =
       min-eq-left (numbers .width .1),
     )
 
-pub record ClampedSizes (G : Setting) : Type 0 where
-  pub entries-A : clamped G .rows * clamped G .inner ≤ mostRows * mostInner
-  pub entries-B : clamped G .inner * clamped G .columns ≤ mostInner * mostColumns
-  pub claims : clamped G .rows * clamped G .columns ≤ mostRows * mostColumns
+pub record Clamped (G : Setting) : Type 0 where
+  pub entries-A : G .rows * G .inner ≤ mostRows * mostInner
+  pub entries-B : G .inner * G .columns ≤ mostInner * mostColumns
+  pub claims : G .rows * G .columns ≤ mostRows * mostColumns
+  pub products : sumProducts G ≤ mostRows * mostInner * mostColumns
+  pub width : G .width ≤ mostWidth
+  pub lifted : lift G ≤ 2 ^ (mostWidth - 1) * mostScale
 
-pub clamped-sizes : (G : Setting) → ClampedSizes G
+pub clamped-small : (G : Setting) → Clamped (clamped G)
 unfolding clamped
-clamped-sizes G =
+clamped-small G =
+    let rows = min-le-right (G .rows) mostRows in
+    let inner = min-le-right (G .inner) mostInner in
+    let columns = min-le-right (G .columns) mostColumns in
+    let width = min-le-right (G .width) mostWidth in
     record {
-      entries-A = mul-le-mul (min-le-right (G .rows) mostRows) (min-le-right (G .inner) mostInner);
-      entries-B = mul-le-mul (min-le-right (G .inner) mostInner) (min-le-right (G .columns) mostColumns);
-      claims = mul-le-mul (min-le-right (G .rows) mostRows) (min-le-right (G .columns) mostColumns);
+      entries-A = mul-le-mul rows inner;
+      entries-B = mul-le-mul inner columns;
+      claims = mul-le-mul rows columns;
+      products = mul-le-mul (mul-le-mul rows inner) columns;
+      width = width;
+      lifted = mul-le-mul (pow-mono {j = mostWidth - 1} (omega arith)) (min-le-right (G .scale) mostScale);
     }

@@ -30,7 +30,7 @@ use Rattle.ticket.specs.declared.records.Form.{Form}
 use Rattle.ticket.specs.Rules.{Test, firstFailed, Part, parts, part, partSize, start, records, holder, isEntry, isQuotient, shiftedQuotient, recordBytes, ticketLength, formed, valueAt, partTests, recordTests, recordNumber, refusal, firstRefusal, after}
 use Rattle.ticket.specs.Laws.First.{true-or-false}
 use Rattle.ticket.specs.Laws.Limits.{Sizes, Numbers, Fitted, Counts, counts, half-small, half-double}
-use Rattle.ticket.specs.Laws.Layout.{start-none, start-next, ends-within, records-end, holder-at, parts-are, partBytes, part-bytes-long, form-of-part, value-of-part}
+use Rattle.ticket.specs.Laws.Layout.{start-none, start-next, ends-within, start-past, holder-at, partBytes, part-bytes-long, form-of-part, value-of-part}
 use Rattle.ticket.specs.Laws.Scans.{refusal-none, refusal-cong, refusal-split}
 use Rattle.ticket.specs.Laws.Forms.{formsOf, formOf, tested, testedAt, partAnswer, Holds, Ranged}
 
@@ -144,7 +144,7 @@ module _ (G : Setting) (t : List ℕ) where
   read-none = sym (refusal-none 0 (start G 0) (recordNumber G t) (λ k l. absurd (omega (arith, start-none G))))
 
   pub read-all : {a : Answer} → ReadTo G t 4 a → a ≡ firstRefusal 0 (records G) (recordNumber G t)
-  read-all e = e ∙ ap (λ n. firstRefusal 0 n (recordNumber G t)) (records-end G (omega (arith, parts-are G .four)))
+  read-all e = e ∙ ap (λ n. firstRefusal 0 n (recordNumber G t)) (start-past G (omega arith))
 
   module _ {w : ℕ} (ready : PartReady G t w) where
     makes : MakesTests (formOf G w) (part G w)

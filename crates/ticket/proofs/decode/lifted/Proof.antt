@@ -1,24 +1,22 @@
+use Prim.Native.Nat.{_-_, _*_, _^_, _≤_}
+use native.Mathlib.Nat.{mul-le-mul}
+use native.Mathlib.Omega.{arith}
 use borrow.Author.Needs.{needs}
 use Rattle.ticket.proofs.decode.lifted.Statement.{statement}
 use Rattle.ticket.proofs.decode.lifted.Tie as tie
 
-cast-whole : tie.Need-cast-whole
-cast-whole c = search needs
+product : (c : tie.After-struct-known) → c .before .args .quotient .0 * c .before .args .scale ≤ (2 ^ 32 - 1) * (2 ^ 32 - 1)
+product c =
+    let quotient : c .before .args .quotient .0 ≤ 2 ^ 32 - 1 = omega arith in
+    let scale : c .before .args .scale ≤ 2 ^ 32 - 1 = omega arith in
+    mul-le-mul quotient scale
 
 mul-whole : tie.Need-mul-whole
-mul-whole c = ?
-
-cast-whole-2 : tie.Need-cast-whole-2
-cast-whole-2 c = search needs
+mul-whole c = omega (arith, product c)
 
 add-whole : tie.Need-add-whole
-add-whole c = ?
-
-cast-result : tie.Need-cast-result
-cast-result c = search needs
-
-returns : tie.Need-returns
-returns c = search needs
+add-whole c = omega (arith, product (c .before))
 
 pub lifted-spec : {M : Type 1} → statement M
-lifted-spec = tie.close (tie.spec cast-whole mul-whole cast-whole-2 add-whole cast-result returns)
+lifted-spec =
+    tie.close (tie.spec (λ c. search needs) mul-whole (λ c. search needs) add-whole (λ c. search needs) (λ c. search needs))

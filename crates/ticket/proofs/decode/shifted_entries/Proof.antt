@@ -1,75 +1,56 @@
+-- The loop keeps the values of the records before k in the list, each with the shift added.
+use Prim.Native.Nat.{_-_, _%_, _≤_}
+use native.Mathlib.Nat.{mod-lt}
+use native.Mathlib.Omega.{arith}
+use mathlib.Core.Path.{_≡_, ap, _∙_}
+use borrow.Author.Needs.{needs}
+use Rattle.residue.specs.Rules.{modulus}
+use Rattle.residue.specs.Laws.Modulo.{sumOnce}
+use Rattle.residue.specs.Laws.Modulus.{modulus-positive}
+use Rattle.algebra.specs.Laws.Fills.{Filled, filled-none, filled-more}
+use Rattle.ticket.specs.Rules.{valueAt}
 use Rattle.ticket.proofs.decode.shifted_entries.Statement.{statement}
 use Rattle.ticket.proofs.decode.shifted_entries.Tie as tie
 
 abbrev Inv-loop : tie.InvT-loop
-Inv-loop records list₀ shift low count k₀ list k = ?
+Inv-loop records list₀ shift count k₀ list k = (k ≤ count) × Filled 0 list₀ k (λ i. sumOnce modulus (valueAt records i) shift) list
 
 abbrev μ-loop : tie.MeasureT-loop
-μ-loop records list₀ shift low count k₀ list k = ?
-
-modulus-requires : tie.Need-modulus-requires Inv-loop μ-loop
-modulus-requires c κs = ?
+μ-loop records list₀ shift count k₀ list k = count - k
 
 rem-shift : tie.Need-rem-shift Inv-loop μ-loop
-rem-shift c = ?
-
-modulus-requires-2 : tie.Need-modulus-requires-2 Inv-loop μ-loop
-modulus-requires-2 c κs = ?
-
-sub-low : tie.Need-sub-low Inv-loop μ-loop
-sub-low c = ?
-
-fewer-requires : tie.Need-fewer-requires Inv-loop μ-loop
-fewer-requires c κs = ?
+rem-shift c = omega (arith, modulus-positive)
 
 loop-holds : tie.Need-loop-holds Inv-loop μ-loop
-loop-holds c = ?
+loop-holds c = (omega arith, filled-none)
 
 value-at-requires : tie.Need-value-at-requires Inv-loop μ-loop
-value-at-requires c κs = ?
+value-at-requires c κs = omega arith
 
 shifted-requires : tie.Need-shifted-requires Inv-loop μ-loop
-shifted-requires c κs = ?
+shifted-requires c κs =
+    let shift = c .before .before .before .before in
+    rw (shift .before .modulus .ensures) (omega (arith, mod-lt (shift .before .before .before .before .args .shift .0) modulus-positive))
 
 mul-list : tie.Need-mul-list Inv-loop μ-loop
-mul-list c = ?
+mul-list c = omega arith
 
 slice-write-list : tie.Need-slice-write-list Inv-loop μ-loop
-slice-write-list c = ?
-
-add-k : tie.Need-add-k Inv-loop μ-loop
-add-k c = ?
-
-loop-less : tie.Need-loop-less Inv-loop μ-loop
-loop-less c = ?
+slice-write-list c = omega (arith, c .before .before .before .loop .inv .1 .long)
 
 loop-again : tie.Need-loop-again Inv-loop μ-loop
-loop-again c = ?
-
-same-length : tie.Need-same-length Inv-loop μ-loop
-same-length c = ?
+loop-again c =
+    let at = c .before .before .before in
+    (omega arith, filled-more (omega arith) (at .loop .inv .1) (c .shifted .ensures ∙ ap (λ v. sumOnce modulus v _) (c .before .value-at .ensures)))
 
 returns : tie.Need-returns Inv-loop μ-loop
-returns c = ?
+returns c =
+    let at = c .before in
+    let all : at .loop .k ≡ at .before .fewer .result = omega arith in
+    rw (all, at .before .fewer .ensures, at .before .before .before .modulus .ensures) at (at .loop .inv .1)
 
 pub shifted-entries-spec : {M : Type 1} → statement M
 shifted-entries-spec =
     tie.close
-    (tie.spec
-    Inv-loop
-    μ-loop
-    modulus-requires
-    rem-shift
-    modulus-requires-2
-    sub-low
-    fewer-requires
-    loop-holds
-    value-at-requires
-    shifted-requires
-    mul-list
-    slice-write-list
-    add-k
-    loop-less
-    loop-again
-    same-length
-    returns)
+    (tie.spec Inv-loop μ-loop (λ c κs. search needs) rem-shift (λ c κs. search needs) loop-holds value-at-requires shifted-requires
+    mul-list slice-write-list (λ c. omega arith) (λ c. omega arith) loop-again (λ c. c .before .loop .inv .1 .long) returns)

@@ -1,56 +1,38 @@
+use native.Mathlib.Omega.{arith}
+use mathlib.Core.Path.{_≡_, ap, _∙_}
 use borrow.Author.Needs.{needs}
+use Rattle.ticket.specs.Rules.{lift, fits}
+use Rattle.ticket.specs.Laws.Limits.{FitProducts, fit-products, clamped-same, lift-double}
 use Rattle.ticket.proofs.setting.Setting.fits.Statement.{statement}
 use Rattle.ticket.proofs.setting.Setting.fits.Tie as tie
 
-cast-bound : tie.Need-cast-bound
-cast-bound c = search needs
+small : (c : tie.Start) → FitProducts (c .args .self)
+small c = fit-products (c .pre .0) (c .pre .1)
 
-cast-reach : tie.Need-cast-reach
-cast-reach c = search needs
+abbrev start : tie.After-lift → tie.Start
+start c = c .before .before .before .before
+
+lifted : (c : tie.After-lift) → c .lift .result ≡ lift (start c .args .self)
+lifted c = c .lift .ensures ∙ ap lift (clamped-same (start c .pre .0) (start c .pre .1))
 
 mul-reach : tie.Need-mul-reach
-mul-reach c = ?
+mul-reach c = omega (arith, small (c .before .before))
 
 mul-reach-2 : tie.Need-mul-reach-2
-mul-reach-2 c = ?
-
-cast-reach-2 : tie.Need-cast-reach-2
-cast-reach-2 c = search needs
+mul-reach-2 c = omega (arith, small (c .before .before))
 
 add-reach : tie.Need-add-reach
-add-reach c = ?
-
-sub-reach : tie.Need-sub-reach
-sub-reach c = search needs
-
-lift-requires : tie.Need-lift-requires
-lift-requires c κs = search needs
+add-reach c = omega (arith, small (c .before .before .before))
 
 mul-result : tie.Need-mul-result
-mul-result c = ?
-
-modulus-requires : tie.Need-modulus-requires
-modulus-requires c κs = search needs
-
-cast-result : tie.Need-cast-result
-cast-result c = search needs
+mul-result c = omega (arith, lifted c, small (start c))
 
 returns : tie.Need-returns
-returns c = ?
+unfolding fits
+returns c = rw (lifted (c .before), c .modulus .ensures, lift-double (start (c .before) .pre .1))
 
 pub fits-spec : {M : Type 1} → statement M
 fits-spec =
     tie.close
-    (tie.spec
-    cast-bound
-    cast-reach
-    mul-reach
-    mul-reach-2
-    cast-reach-2
-    add-reach
-    sub-reach
-    lift-requires
-    mul-result
-    modulus-requires
-    cast-result
-    returns)
+    (tie.spec (λ c. search needs) (λ c. search needs) mul-reach mul-reach-2 (λ c. search needs) add-reach (λ c. search needs)
+    (λ c κs. search needs) mul-result (λ c κs. search needs) (λ c. search needs) returns)

@@ -1,22 +1,15 @@
+use native.Mathlib.Omega.{arith}
+use mathlib.Core.Path.{_∙_}
 use borrow.Author.Needs.{needs}
+use Rattle.residue.specs.Laws.Powers.{power-within}
 use Rattle.ticket.proofs.setting.Setting.half.Statement.{statement}
 use Rattle.ticket.proofs.setting.Setting.half.Tie as tie
 
-least-requires : tie.Need-least-requires
-least-requires c κs = search needs
-
 returns : tie.Need-returns
-returns c = ?
-
-sub-power-of-two : tie.Need-sub-power-of-two
-sub-power-of-two c = search needs
-
-power-of-two-requires : tie.Need-power-of-two-requires
-power-of-two-requires c κs = search needs
+returns c = rw (← c .before .clamped .ensures .0, c .if1 .taken)
 
 returns-2 : tie.Need-returns-2
-returns-2 c = ?
+returns-2 c = rw (← c .before .before .clamped .ensures .0) (c .power-of-two .ensures ∙ power-within _ (omega arith))
 
 pub half-spec : {M : Type 1} → statement M
-half-spec =
-    tie.close (tie.spec least-requires returns sub-power-of-two power-of-two-requires returns-2)
+half-spec = tie.close (tie.spec (λ c κs. search needs) returns (λ c. search needs) (λ c κs. search needs) returns-2)

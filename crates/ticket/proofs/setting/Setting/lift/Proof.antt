@@ -1,25 +1,18 @@
+use native.Mathlib.Omega.{arith}
 use borrow.Author.Needs.{needs}
+use Rattle.ticket.specs.Laws.Limits.{clamped-small}
 use Rattle.ticket.proofs.setting.Setting.lift.Statement.{statement}
 use Rattle.ticket.proofs.setting.Setting.lift.Tie as tie
 
-half-requires : tie.Need-half-requires
-half-requires c κs = search needs
-
-cast-result : tie.Need-cast-result
-cast-result c = search needs
-
-least-requires : tie.Need-least-requires
-least-requires c κs = search needs
-
-cast-result-2 : tie.Need-cast-result-2
-cast-result-2 c = search needs
-
 mul-result : tie.Need-mul-result
-mul-result c = ?
+mul-result c =
+    let start = c .before .before .before .before in
+    rw (c .before .before .before .half .ensures, c .before .clamped .ensures .0) (omega (arith, clamped-small (start .args .self)))
 
 returns : tie.Need-returns
-returns c = ?
+returns c = rw (c .before .before .before .half .ensures, c .before .clamped .ensures .0)
 
 pub lift-spec : {M : Type 1} → statement M
 lift-spec =
-    tie.close (tie.spec half-requires cast-result least-requires cast-result-2 mul-result returns)
+    tie.close
+    (tie.spec (λ c κs. search needs) (λ c. search needs) (λ c κs. search needs) (λ c. search needs) mul-result returns)

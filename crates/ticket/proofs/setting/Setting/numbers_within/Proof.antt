@@ -1,19 +1,11 @@
 use borrow.Author.Needs.{needs}
+use Rattle.ticket.specs.Rules.{numbersWithin}
 use Rattle.ticket.proofs.setting.Setting.numbers_within.Statement.{statement}
 use Rattle.ticket.proofs.setting.Setting.numbers_within.Tie as tie
 
-within-requires : tie.Need-within-requires
-within-requires c κs = search needs
-
-within-requires-2 : tie.Need-within-requires-2
-within-requires-2 c κs = search needs
-
-within-requires-3 : tie.Need-within-requires-3
-within-requires-3 c κs = search needs
-
 returns : tie.Need-returns
-returns c = ?
+unfolding numbersWithin
+returns c = rw (c .before .before .within .ensures, c .before .within2 .ensures, c .within3 .ensures)
 
 pub numbers-within-spec : {M : Type 1} → statement M
-numbers-within-spec =
-    tie.close (tie.spec within-requires within-requires-2 within-requires-3 returns)
+numbers-within-spec = tie.close (tie.spec (λ c κs. search needs) (λ c κs. search needs) (λ c κs. search needs) returns)

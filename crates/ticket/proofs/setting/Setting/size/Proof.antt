@@ -1,48 +1,26 @@
+use native.Mathlib.Omega.{arith}
+use mathlib.Core.Path.{sym}
 use borrow.Author.Needs.{needs}
+use Rattle.ticket.specs.Rules.{parts, part}
+use Rattle.ticket.specs.Laws.Layout.{size-claims, size-past}
 use Rattle.ticket.proofs.setting.Setting.size.Statement.{statement}
 use Rattle.ticket.proofs.setting.Setting.size.Tie as tie
 
-least-requires : tie.Need-least-requires
-least-requires c κs = search needs
-
-least-requires-2 : tie.Need-least-requires-2
-least-requires-2 c κs = search needs
-
-least-requires-3 : tie.Need-least-requires-3
-least-requires-3 c κs = search needs
-
-mul-result : tie.Need-mul-result
-mul-result c = ?
-
 returns : tie.Need-returns
-returns c = ?
-
-mul-result-2 : tie.Need-mul-result-2
-mul-result-2 c = ?
+unfolding parts part
+returns c = rw (c .before .if1 .taken, c .before .before .clamped .ensures .0)
 
 returns-2 : tie.Need-returns-2
-returns-2 c = ?
-
-mul-result-3 : tie.Need-mul-result-3
-mul-result-3 c = ?
+unfolding parts part
+returns-2 c = rw (c .before .if2 .taken, c .before .before .before .clamped .ensures .0)
 
 returns-3 : tie.Need-returns-3
-returns-3 c = ?
+returns-3 c = rw (c .before .before .before .before .clamped .ensures .0) (sym (size-claims _ (omega arith) (omega arith)))
 
 returns-4 : tie.Need-returns-4
-returns-4 c = ?
+returns-4 c = sym (size-past _ (omega arith))
 
 pub size-spec : {M : Type 1} → statement M
 size-spec =
     tie.close
-    (tie.spec
-    least-requires
-    least-requires-2
-    least-requires-3
-    mul-result
-    returns
-    mul-result-2
-    returns-2
-    mul-result-3
-    returns-3
-    returns-4)
+    (tie.spec (λ c κs. search needs) (λ c. search needs) returns (λ c. search needs) returns-2 (λ c. search needs) returns-3 returns-4)

@@ -1,23 +1,13 @@
 use borrow.Author.Needs.{needs}
+use Rattle.ticket.specs.Rules.{sizesWithin}
 use Rattle.ticket.proofs.setting.Setting.sizes_within.Statement.{statement}
 use Rattle.ticket.proofs.setting.Setting.sizes_within.Tie as tie
 
-within-requires : tie.Need-within-requires
-within-requires c κs = search needs
-
-within-requires-2 : tie.Need-within-requires-2
-within-requires-2 c κs = search needs
-
-within-requires-3 : tie.Need-within-requires-3
-within-requires-3 c κs = search needs
-
-within-requires-4 : tie.Need-within-requires-4
-within-requires-4 c κs = search needs
-
 returns : tie.Need-returns
-returns c = ?
+unfolding sizesWithin
+returns c =
+    rw (c .before .before .before .within .ensures, c .before .before .within2 .ensures, c .before .within3 .ensures, c .within4 .ensures)
 
 pub sizes-within-spec : {M : Type 1} → statement M
 sizes-within-spec =
-    tie.close
-    (tie.spec within-requires within-requires-2 within-requires-3 within-requires-4 returns)
+    tie.close (tie.spec (λ c κs. search needs) (λ c κs. search needs) (λ c κs. search needs) (λ c κs. search needs) returns)

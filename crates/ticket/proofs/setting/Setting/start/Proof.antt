@@ -1,68 +1,42 @@
+use native.Mathlib.Omega.{arith}
 use borrow.Author.Needs.{needs}
+use Rattle.ticket.specs.declared.setting.Setting.{Setting}
+use Rattle.ticket.specs.Laws.Limits.{clamped, clamped-small}
+use Rattle.ticket.specs.Laws.Layout.{parts-are, start-past}
 use Rattle.ticket.proofs.setting.Setting.start.Statement.{statement}
 use Rattle.ticket.proofs.setting.Setting.start.Tie as tie
 
-size-requires : tie.Need-size-requires
-size-requires c κs = search needs
+abbrev G : tie.After-size → Setting
+G c = clamped (c .before .args .self)
 
-size-requires-2 : tie.Need-size-requires-2
-size-requires-2 c κs = search needs
+add-quotients : tie.Need-add-quotients
+add-quotients c = omega (arith, parts-are (G (c .before)), clamped-small (c .before .before .args .self))
 
-size-requires-3 : tie.Need-size-requires-3
-size-requires-3 c κs = search needs
+add-remainders : tie.Need-add-remainders
+add-remainders c = omega (arith, parts-are (G (c .before .before)), clamped-small (c .before .before .before .args .self))
+
+add-end : tie.Need-add-end
+add-end c = omega (arith, parts-are (G (c .before .before .before)), clamped-small (c .before .before .before .before .args .self))
 
 returns : tie.Need-returns
-returns c = ?
+returns c = rw (c .if1 .taken) (omega (arith, parts-are (G (c .before .before .before .before))))
 
 returns-2 : tie.Need-returns-2
-returns-2 c = ?
-
-add-result : tie.Need-add-result
-add-result c = ?
+returns-2 c = rw (c .if2 .taken) (omega (arith, parts-are (G (c .before .before .before .before .before))))
 
 returns-3 : tie.Need-returns-3
-returns-3 c = ?
-
-add-result-2 : tie.Need-add-result-2
-add-result-2 c = ?
-
-add-result-3 : tie.Need-add-result-3
-add-result-3 c = ?
+returns-3 c = rw (c .if3 .taken) (omega (arith, parts-are (G (c .before .before .before .before .before .before))))
 
 returns-4 : tie.Need-returns-4
-returns-4 c = ?
-
-add-result-4 : tie.Need-add-result-4
-add-result-4 c = ?
-
-add-result-5 : tie.Need-add-result-5
-add-result-5 c = ?
-
-size-requires-4 : tie.Need-size-requires-4
-size-requires-4 c κs = search needs
-
-add-result-6 : tie.Need-add-result-6
-add-result-6 c = ?
+returns-4 c = rw (c .if4 .taken) (omega (arith, parts-are (G (c .before .before .before .before .before .before .before))))
 
 returns-5 : tie.Need-returns-5
-returns-5 c = ?
+returns-5 c =
+    let first = c .before .before .before .before .before .before .before in
+    omega (arith, parts-are (G first), start-past (G first) {w = first .before .args .which .0} (omega arith))
 
 pub start-spec : {M : Type 1} → statement M
 start-spec =
     tie.close
-    (tie.spec
-    size-requires
-    size-requires-2
-    size-requires-3
-    returns
-    returns-2
-    add-result
-    returns-3
-    add-result-2
-    add-result-3
-    returns-4
-    add-result-4
-    add-result-5
-    size-requires-4
-    add-result-6
-    returns-5)
+    (tie.spec (λ c κs. search needs) (λ c κs. search needs) add-quotients (λ c κs. search needs) add-remainders
+    (λ c κs. search needs) add-end returns returns-2 returns-3 returns-4 returns-5)
