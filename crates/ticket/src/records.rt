@@ -88,31 +88,33 @@ fn form_of(setting: Setting, which: PartNumber) -> Form
     requires { ⌜ Sizes setting × Numbers setting ⌝ }
     ensures { λ r. ⌜ r ≡ formOf setting (which .0) ⌝ }
 {
+    let part = which.0;
     let rows = setting.rows as u8;
     let inner = setting.inner as u8;
     let columns = setting.columns as u8;
     let half = setting.half().0;
-    if which.0 == 0 {
+    let entries = 2 * setting.bound + 1;
+    if part == 0 {
         return Form {
             kind: 1,
             rows,
             columns: inner,
             shift: setting.bound,
-            limit: 2 * setting.bound + 1,
+            limit: entries,
             outside: 7,
         };
     }
-    if which.0 == 1 {
+    if part == 1 {
         return Form {
             kind: 2,
             rows: inner,
             columns,
             shift: setting.bound,
-            limit: 2 * setting.bound + 1,
+            limit: entries,
             outside: 7,
         };
     }
-    if which.0 == 2 {
+    if part == 2 {
         return Form {
             kind: 3,
             rows,

@@ -1,6 +1,7 @@
 -- The form that the code gives the tests of a part, and that they are the rule's.
 --
---   formsOf G, formOf G w   the forms of the parts, in order, and that of part w
+--   formsOf G, lastForm G, formOf G w   the forms of the parts before the last, that of the last, and that of part w
+--   form-last            from the last part on, it is the last
 --   testedAt b F i r c   the number of record i of b by the form F, which stands in row r, column c
 --   tested b F i         the same, the row and the column from i
 --   partAnswer F a b     the answer of the part that b begins with, of which the first record has the number a
@@ -23,7 +24,7 @@ use mathlib.Core.List.{List, [], _∷_}
 use borrow.Author.Tests.{le-ltb, lt-ltb}
 use lib.Dec.{ltb, eqb}
 use lib.IntN.{pos, _+ℤ_}
-use lib.ListN.{length, getD, take, drop}
+use lib.ListN.{length, getD, take, drop, List·getD-eq-default}
 use Rattle.residue.specs.Rules.{modulus, leastResidue}
 use Rattle.residue.specs.Laws.Modulus.{modulus-positive}
 use Rattle.residue.specs.Laws.Residues.{residue-of-natural}
@@ -46,11 +47,15 @@ formsOf G =
     ∷ []
 
 -- of the last part, and past it
-abbrev lastForm : Setting → Form
+abbrev pub lastForm : Setting → Form
 lastForm G = record { kind = 4; rows = G .rows; columns = G .columns; shift = 0; limit = G .scale; outside = 9 }
 
 unfoldable pub formOf : Setting → ℕ → Form
 formOf G w = getD (formsOf G) w (lastForm G)
+
+pub form-last : (G : Setting) {w : ℕ} → 3 ≤ w → formOf G w ≡ lastForm G
+unfolding formsOf formOf
+form-last G past = List·getD-eq-default (formsOf G) (lastForm G) past
 
 -- the tests of record i, in order
 abbrev testsAt : List ℕ → Form → ℕ → ℕ → ℕ → List Test
@@ -117,14 +122,17 @@ module _ (bytes : List ℕ) (F : Form) (i row column : ℕ) where
   pub tested-misformed : formed bytes i (F .kind) row column ≡ false → 5 ≡ testedAt bytes F i row column
   tested-misformed e = failed (here e)
 
-  module _ (form : formed bytes i (F .kind) row column ≡ true) where
-    pub tested-large : ltb (valueAt bytes i) modulus ≡ false → 6 ≡ testedAt bytes F i row column
-    tested-large e = failed (later form (here e))
+  module _ (form : formed bytes i (F .kind) row column ≡ true) {value : ℕ} (value-is : value ≡ valueAt bytes i) where
+    pub tested-large : ltb value modulus ≡ false → 6 ≡ testedAt bytes F i row column
+    tested-large e = failed (later form (here (rw (← value-is) e)))
 
-    module _ (small : ltb (valueAt bytes i) modulus ≡ true) {shifted : ℕ}
-        (shifted-is : shifted ≡ leastResidue modulus (pos (valueAt bytes i) +ℤ pos (F .shift))) where
+    module _ (least : ltb value modulus ≡ true) {shifted : ℕ}
+        (shifted-is : shifted ≡ leastResidue modulus (pos value +ℤ pos (F .shift))) where
+      small : ltb (valueAt bytes i) modulus ≡ true
+      small = rw (← value-is) least
+
       shifted-by : shifted ≡ (valueAt bytes i + F .shift) % modulus
-      shifted-by = shifted-is ∙ residue-of-natural modulus modulus-positive (valueAt bytes i + F .shift)
+      shifted-by = shifted-is ∙ residue-of-natural modulus modulus-positive (value + F .shift) ∙ rw value-is
 
       pub tested-outside : F .limit ≤ shifted → F .outside ≡ testedAt bytes F i row column
       tested-outside h = failed (later form (later small (here (rw (← shifted-by) (le-ltb shifted (F .limit) h)))))

@@ -8,6 +8,7 @@
 --   sizes-of, numbers-of   the first two, from their tests
 --   Within G, limits-of    all three, from the tests of the setting
 --   setting-numbered       the numbers of the tests are 1 to 3
+--   setting-holds          they all hold, where the number of the setting is 0
 --   Counts G, counts       how many records the parts have at most, numbers a challenge list, and products all sums
 --   half-small, half-double   half of the quotients' range is small, and twice that is the range
 --   FitProducts G, fit-products   the products of the test of the fit, none of them large
@@ -26,8 +27,8 @@ use lib.Dec.{leb, ltb}
 use lib.Pow.{pow-mono}
 use Rattle.residue.specs.Rules.{modulus}
 use Rattle.ticket.specs.declared.setting.Setting.{Setting}
-use Rattle.ticket.specs.Rules.{within, mostRows, mostInner, mostColumns, mostVectors, mostScale, mostBound, mostWidth, reach, halfRange, lift, sizesWithin, numbersWithin, fits, settingTests, sumProducts}
-use Rattle.ticket.specs.Laws.Tests.{AllHold, first-holds, rest-hold, Numbered}
+use Rattle.ticket.specs.Rules.{within, mostRows, mostInner, mostColumns, mostVectors, mostScale, mostBound, mostWidth, reach, halfRange, lift, sizesWithin, numbersWithin, fits, settingTests, settingNumber, sumProducts}
+use Rattle.ticket.specs.Laws.Tests.{AllHold, first-holds, rest-hold, Numbered, tests-hold}
 
 pub both : (a b : Bool) → (a && b) ≡ true → (a ≡ true) × (b ≡ true)
 both a b e = and-eq-true-iff a b .0 e
@@ -125,6 +126,9 @@ limits-of G h =
 pub setting-numbered : (G : Setting) → Numbered 1 3 (settingTests G)
 unfolding settingTests Numbered
 setting-numbered G = (omega arith, (omega arith, (omega arith, tt)))
+
+pub setting-holds : (G : Setting) → settingNumber G ≡ 0 → AllHold (settingTests G)
+setting-holds G e = tests-hold 1 3 (settingTests G) (omega arith) (setting-numbered G) e
 
 pub half-small : {G : Setting} → Numbers G → halfRange G ≤ 2 ^ 29
 half-small {G} numbers = pow-mono {j = 29} (omega arith)

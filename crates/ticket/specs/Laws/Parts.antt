@@ -5,8 +5,8 @@
 --   forms-make         the form of each part does
 --   ReadReady G t      setting and length pass their tests
 --   PartReady G t w    so they do, and w is the number of a part
---   part-holds         then the part can be read by its form
---   partRead G t w     the answer of part w
+--   part-holds, part-early   then the part can be read by its form, and does not start late
+--   partRead G t w, part-answer   the answer of part w, and that it is the code's
 --   ReadTo G t w a     a is the answer of the parts before w
 --   read-none, read-next, read-all   no part, one more, and all
 use Prim.Native.Nat.{ℕ, zero, suc, _+_, _-_, _*_, _/_, _%_, _^_, _≤_, _<_}
@@ -29,8 +29,8 @@ use Rattle.ticket.specs.declared.Answer.{Answer}
 use Rattle.ticket.specs.declared.records.Form.{Form}
 use Rattle.ticket.specs.Rules.{Test, firstFailed, Part, parts, part, partSize, start, records, holder, isEntry, isQuotient, shiftedQuotient, recordBytes, ticketLength, formed, valueAt, partTests, recordTests, recordNumber, refusal, firstRefusal, after}
 use Rattle.ticket.specs.Laws.First.{true-or-false}
-use Rattle.ticket.specs.Laws.Limits.{Sizes, Numbers, Fitted, Counts, counts, half-small, half-double}
-use Rattle.ticket.specs.Laws.Layout.{start-none, start-next, ends-within, start-past, holder-at, partBytes, part-bytes-long, form-of-part, value-of-part}
+use Rattle.ticket.specs.Laws.Limits.{Numbers, Counts, half-small, half-double, clamped, clamped-same}
+use Rattle.ticket.specs.Laws.Layout.{no-parts, one-part, part-all, parts-are, start-none, start-next, ends-within, start-past, holder-at, partBytes, part-bytes-long, form-of-part, value-of-part}
 use Rattle.ticket.specs.Laws.Scans.{refusal-none, refusal-cong, refusal-split}
 use Rattle.ticket.specs.Laws.Forms.{formsOf, formOf, tested, testedAt, partAnswer, Holds, Ranged}
 
@@ -149,6 +149,36 @@ module _ (G : Setting) (t : List ℕ) where
   module _ {w : ℕ} (ready : PartReady G t w) where
     makes : MakesTests (formOf G w) (part G w)
     makes = forms-make (ready .ready .numbers) w (ready .known)
+
+    -- no part of a setting within its limits is without columns
+    wide : 1 ≤ part G w .columns
+    unfolding parts
+    wide =
+        let s = ready .ready .counts .sizes in
+        part-all G {Q = λ P. 1 ≤ P .columns}
+        (one-part (s .inner .0) (one-part (s .columns .0) (one-part (s .columns .0) (one-part (s .columns .0) no-parts)))) (ready .known)
+
+    module _ {b : List ℕ} {F : Form} (bytes : b ≡ partBytes (clamped G) t w) (form : F ≡ formOf G w) where
+      same : clamped G ≡ G
+      same = clamped-same (ready .ready .counts .sizes) (ready .ready .numbers)
+
+      pub part-holds : Holds b F
+      part-holds =
+          let size : F .rows * F .columns ≡ partSize (part G w) = rw (form, makes .rows, makes .columns) in
+          record {
+            columns = rw (form, makes .columns) wide;
+            few = omega (arith, ends-within G w, parts-are G .all, ready .ready .counts);
+            long = rw (bytes, same) (omega (arith, part-bytes-long G t w (ready .ready .long)));
+            range = rw form (makes .ranged);
+          }
+
+      module _ {a : ℕ} (from : a ≡ start (clamped G) w) where
+        pub part-early : a < 2 ^ 16
+        part-early = rw (from, same) (omega (arith, ends-within G w, parts-are G .all, ready .ready .counts))
+
+        pub part-answer : partAnswer F a b ≡ partRead G t w
+        unfolding partRead
+        part-answer = rw (bytes, form, from, same)
 
     -- record i of the part, by the form of the code
     tested-part : (i : ℕ) → i < partSize (part G w) → tested (partBytes G t w) (formOf G w) i ≡ recordNumber G t (start G w + i)

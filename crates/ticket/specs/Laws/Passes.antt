@@ -20,7 +20,7 @@ use Rattle.ticket.specs.declared.setting.Setting.{Setting}
 use Rattle.ticket.specs.Rules.{Passes, settingTests, settingNumber, reading, recordsReading, ticketLength, records, recordTests, recordNumber, refusal, firstRefusal, Part, parts, part, start, formed, valueAt, valueIn}
 use Rattle.ticket.specs.Laws.Answers.{unless-zero, after-zero, scan-zero}
 use Rattle.ticket.specs.Laws.Tests.{AllHold, first-holds, rest-hold, Numbered, tests-hold, holding-number}
-use Rattle.ticket.specs.Laws.Limits.{Counts, Numbers, Fitted, counts, limits-of, setting-numbered}
+use Rattle.ticket.specs.Laws.Limits.{Counts, Numbers, Fitted, counts, limits-of, setting-holds}
 use Rattle.ticket.specs.Laws.Layout.{Each, one-part, no-parts, part-all, Located, located-at, record-at, locatedTests, tests-located}
 
 pub record Passed (G : Setting) (t : List ℕ) : Type 0 where
@@ -52,7 +52,7 @@ module _ (G : Setting) (t : List ℕ) where
       let answers = after-zero (refusal (settingNumber G) 0) (recordsReading G t) .0 e in
       let scan = firstRefusal 0 (records G) (recordNumber G t) in
       let tests = unless-zero (eqb (length t) (ticketLength G)) (refusal 4 0) scan (λ z. omega arith) .0 (answers .1) in
-      let setting = tests-hold 1 3 (settingTests G) (omega arith) (setting-numbered G) (answers .0) in
+      let setting = setting-holds G (answers .0) in
       let limits = limits-of G setting in
       record {
         setting = setting;

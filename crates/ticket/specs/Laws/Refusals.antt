@@ -3,6 +3,7 @@
 --   PassedTo G t k         the setting and the length pass, and every record before k does
 --   Refused G t c k        the condition of the number c with the place k, no earlier test failing: the first test of the setting that
 --                          fails, the length, or the first test that fails of the first record that does not pass
+--   records-read           where setting and length pass, reading is that of the records
 --   passed-reading         where all tests pass, reading answers 0
 --   refused-reading        where the condition of a number holds, reading answers that number
 --   wrong-length           reading of a ticket of another length
@@ -50,12 +51,12 @@ module _ (G : Setting) (t : List ℕ) where
   unfolding reading
   setting-passed s = after-passed (refusal (settingNumber G) 0) (recordsReading G t) (holding-number s)
 
-  records-read : {k : ℕ} → PassedTo G t k → reading G t ≡ firstRefusal 0 (records G) (recordNumber G t)
+  pub records-read : AllHold (settingTests G) → length t ≡ ticketLength G → reading G t ≡ firstRefusal 0 (records G) (recordNumber G t)
   unfolding recordsReading
-  records-read p = setting-passed (p .setting) ∙ rw (eq-eqb (length t) (ticketLength G) (p .long))
+  records-read s long = setting-passed s ∙ rw (eq-eqb (length t) (ticketLength G) long)
 
   pub passed-reading : PassedTo G t (records G) → reading G t ≡ refusal 0 0
-  passed-reading p = records-read p ∙ refusal-none 0 (records G) (recordNumber G t) (λ k l. holding-number (p .before k l))
+  passed-reading p = records-read (p .setting) (p .long) ∙ refusal-none 0 (records G) (recordNumber G t) (λ k l. holding-number (p .before k l))
 
   pub refused-reading : {c k : ℕ} → Refused G t c k → reading G t ≡ refusal c k
   unfolding reading recordsReading
@@ -67,7 +68,7 @@ module _ (G : Setting) (t : List ℕ) where
   refused-reading (by-length s d) = setting-passed s ∙ rw (ne-eqb (length t) (ticketLength G) d)
   refused-reading (by-record {c} {k} p l f) =
       let number : recordNumber G t k ≡ c = failed-number f in
-      records-read p
+      records-read (p .setting) (p .long)
       ∙ refusal-is 0 (records G) k (recordNumber G t) l (λ i m. holding-number (p .before i m))
       (λ z. omega (arith, failed-within (recordTests G t k) (record-numbered G t l) f))
       ∙ ap (λ c. refusal c (0 + k)) number ∙ ap (refusal c) (omega arith)

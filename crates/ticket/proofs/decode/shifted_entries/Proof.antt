@@ -2,7 +2,7 @@
 use Prim.Native.Nat.{_-_, _%_, _≤_}
 use native.Mathlib.Nat.{mod-lt}
 use native.Mathlib.Omega.{arith}
-use mathlib.Core.Path.{_≡_, ap, _∙_}
+use mathlib.Core.Path.{_≡_, _∙_}
 use borrow.Author.Needs.{needs}
 use Rattle.residue.specs.Rules.{modulus}
 use Rattle.residue.specs.Laws.Modulo.{sumOnce}
@@ -41,7 +41,7 @@ slice-write-list c = omega (arith, c .before .before .before .loop .inv .1 .long
 loop-again : tie.Need-loop-again Inv-loop μ-loop
 loop-again c =
     let at = c .before .before .before in
-    (omega arith, filled-more (omega arith) (at .loop .inv .1) (c .shifted .ensures ∙ ap (λ v. sumOnce modulus v _) (c .before .value-at .ensures)))
+    (omega arith, filled-more (omega arith) (at .loop .inv .1) (c .shifted .ensures ∙ rw (c .before .value-at .ensures)))
 
 returns : tie.Need-returns Inv-loop μ-loop
 returns c =

@@ -1,75 +1,49 @@
+-- The loop keeps that the records before i pass, and that record i stands in its row and column.
+use Prim.Native.Nat.{_-_, _≤_}
+use native.Mathlib.Omega.{arith}
+use mathlib.Core.Path.{sym}
+use Rattle.algebra.specs.Laws.Positions.{position-within}
+use Rattle.ticket.specs.Laws.Forms.{Scanned, scanned-none, scanned-refused, scanned-next, scanned-row}
+use Rattle.ticket.specs.Laws.Scans.{refusal-none}
 use Rattle.ticket.proofs.records.first_refusal.Statement.{statement}
 use Rattle.ticket.proofs.records.first_refusal.Tie as tie
 
 abbrev Inv-loop : tie.InvT-loop
-Inv-loop records form start count i₀ row₀ column₀ i row column = ?
+Inv-loop records form start count i₀ row₀ column₀ i row column = (i ≤ count) × Scanned records form i row column
 
 abbrev μ-loop : tie.MeasureT-loop
-μ-loop records form start count i₀ row₀ column₀ i row column = ?
-
-cast-count : tie.Need-cast-count Inv-loop μ-loop
-cast-count c = ?
-
-cast-count-2 : tie.Need-cast-count-2 Inv-loop μ-loop
-cast-count-2 c = ?
-
-mul-count : tie.Need-mul-count Inv-loop μ-loop
-mul-count c = ?
+μ-loop records form start count i₀ row₀ column₀ i row column = count - i
 
 loop-holds : tie.Need-loop-holds Inv-loop μ-loop
-loop-holds c = ?
-
-record-number-requires : tie.Need-record-number-requires Inv-loop μ-loop
-record-number-requires c κs = ?
-
-add-place : tie.Need-add-place Inv-loop μ-loop
-add-place c = ?
+loop-holds c = (omega arith, scanned-none _ _ (c .before .before .before .pre .0 .columns))
 
 returns : tie.Need-returns Inv-loop μ-loop
-returns c = ?
-
-add-i : tie.Need-add-i Inv-loop μ-loop
-add-i c = ?
-
-add-column : tie.Need-add-column Inv-loop μ-loop
-add-column c = ?
+returns c =
+    scanned-refused _ _ (c .before .before .before .loop .inv .1) _ _ (omega arith) (c .before .record-number .ensures) (c .if1 .taken)
 
 add-row : tie.Need-add-row Inv-loop μ-loop
-add-row c = ?
-
-loop-less : tie.Need-loop-less Inv-loop μ-loop
-loop-less c = ?
+add-row c =
+    let in-loop = c .before .before .before .before in
+    omega (arith, position-within (in-loop .before .loop .inv .1 .at) (in-loop .loop-test .taken))
 
 loop-again : tie.Need-loop-again Inv-loop μ-loop
-loop-again c = ?
-
-loop-less-2 : tie.Need-loop-less-2 Inv-loop μ-loop
-loop-less-2 c = ?
+loop-again c =
+    let passed = c .before .before in
+    let scanned = passed .before .before .before .loop .inv .1 in
+    (omega arith, scanned-row _ _ scanned (passed .before .record-number .ensures) (passed .if1 .left) (c .if2 .taken))
 
 loop-again-2 : tie.Need-loop-again-2 Inv-loop μ-loop
-loop-again-2 c = ?
+loop-again-2 c =
+    let passed = c .before .before in
+    let scanned = passed .before .before .before .loop .inv .1 in
+    (omega arith, scanned-next _ _ scanned (passed .before .record-number .ensures) (passed .if1 .left) (c .if2 .left))
 
 returns-2 : tie.Need-returns-2 Inv-loop μ-loop
-returns-2 c = ?
+returns-2 c = sym (refusal-none _ _ _ (λ k l. c .before .loop .inv .1 .before k (omega arith)))
 
 pub first-refusal-spec : {M : Type 1} → statement M
 first-refusal-spec =
     tie.close
-    (tie.spec
-    Inv-loop
-    μ-loop
-    cast-count
-    cast-count-2
-    mul-count
-    loop-holds
-    record-number-requires
-    add-place
-    returns
-    add-i
-    add-column
-    add-row
-    loop-less
-    loop-again
-    loop-less-2
-    loop-again-2
-    returns-2)
+    (tie.spec Inv-loop μ-loop (λ c. omega arith) (λ c. omega arith) (λ c. omega arith) loop-holds (λ c κs. omega arith)
+    (λ c. omega arith) returns (λ c. omega arith) (λ c. omega arith) add-row (λ c. omega arith) loop-again (λ c. omega arith)
+    loop-again-2 returns-2)

@@ -1,60 +1,40 @@
+use native.Mathlib.Omega.{arith}
+use mathlib.Core.Path.{_≡_, sym, ap, _∙_}
 use borrow.Author.Needs.{needs}
+use Rattle.ticket.specs.Rules.{halfRange}
+use Rattle.ticket.specs.Laws.Limits.{clamped-same, half-small}
+use Rattle.ticket.specs.Laws.Forms.{formsOf, formOf, form-last}
 use Rattle.ticket.proofs.records.form_of.Statement.{statement}
 use Rattle.ticket.proofs.records.form_of.Tie as tie
 
-cast-rows : tie.Need-cast-rows
-cast-rows c = search needs
+abbrev start : tie.After-half → tie.Start
+start c = c .before .before .before .before
 
-cast-inner : tie.Need-cast-inner
-cast-inner c = search needs
-
-cast-columns : tie.Need-cast-columns
-cast-columns c = search needs
-
-half-requires : tie.Need-half-requires
-half-requires c κs = search needs
-
-mul-t9 : tie.Need-mul-t9
-mul-t9 c = search needs
-
-add-t10 : tie.Need-add-t10
-add-t10 c = search needs
+half : (c : tie.After-half) → c .half .result .0 ≡ halfRange (start c .args .setting)
+half c = c .half .ensures ∙ ap halfRange (clamped-same (start c .pre .0) (start c .pre .1))
 
 returns : tie.Need-returns
-returns c = ?
-
-mul-t11 : tie.Need-mul-t11
-mul-t11 c = search needs
-
-add-t12 : tie.Need-add-t12
-add-t12 c = search needs
+unfolding formsOf formOf
+returns c = rw (c .if1 .taken)
 
 returns-2 : tie.Need-returns-2
-returns-2 c = ?
+unfolding formsOf formOf
+returns-2 c = rw (c .if2 .taken)
 
-mul-t13 : tie.Need-mul-t13
-mul-t13 c = ?
+mul-limit : tie.Need-mul-t12
+mul-limit c =
+    let at = c .before .before .before .before in
+    omega (arith, half at, half-small (start at .pre .1))
 
 returns-3 : tie.Need-returns-3
-returns-3 c = ?
+unfolding formsOf formOf
+returns-3 c = rw (c .if3 .taken, half (c .before .before .before .before))
 
 returns-4 : tie.Need-returns-4
-returns-4 c = ?
+returns-4 c = sym (form-last _ (omega arith))
 
 pub form-of-spec : {M : Type 1} → statement M
 form-of-spec =
     tie.close
-    (tie.spec
-    cast-rows
-    cast-inner
-    cast-columns
-    half-requires
-    mul-t9
-    add-t10
-    returns
-    mul-t11
-    add-t12
-    returns-2
-    mul-t13
-    returns-3
-    returns-4)
+    (tie.spec (λ c. search needs) (λ c. search needs) (λ c. search needs) (λ c κs. search needs) (λ c. search needs)
+    (λ c. search needs) returns returns-2 mul-limit returns-3 returns-4)

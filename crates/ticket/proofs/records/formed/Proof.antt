@@ -1,56 +1,22 @@
+use native.Mathlib.Omega.{arith}
+use mathlib.Core.Path.{_∙_}
 use borrow.Author.Needs.{needs}
+use Rattle.ticket.specs.Laws.Forms.{first-word, header-formed}
 use Rattle.ticket.proofs.records.formed.Statement.{statement}
 use Rattle.ticket.proofs.records.formed.Tie as tie
 
-mul-at : tie.Need-mul-at
-mul-at c = search needs
-
-add-record : tie.Need-add-record
-add-record c = search needs
-
-sub-record : tie.Need-sub-record
-sub-record c = search needs
-
-part-record-start : tie.Need-part-record-start
-part-record-start c = search needs
-
-part-record-end : tie.Need-part-record-end
-part-record-end c = search needs
-
-shared-slice-read-word : tie.Need-shared-slice-read-word
-shared-slice-read-word c = search needs
-
-shared-slice-read-word-2 : tie.Need-shared-slice-read-word-2
-shared-slice-read-word-2 c = search needs
-
-shared-slice-read-word-3 : tie.Need-shared-slice-read-word-3
-shared-slice-read-word-3 c = search needs
-
-shared-slice-read-word-4 : tie.Need-shared-slice-read-word-4
-shared-slice-read-word-4 c = search needs
-
-word-requires : tie.Need-word-requires
-word-requires c κs = search needs
-
-word-requires-2 : tie.Need-word-requires-2
-word-requires-2 c κs = search needs
+abbrev known : tie.After-word2 → tie.After-shared-slice-known
+known c = c .before .before .before .before .before .before .before
 
 returns : tie.Need-returns
-returns c = ?
+returns c =
+    let records = known c .before .args .records .now in
+    let i = known c .before .args .i in
+    header-formed records i (c .before .word .ensures ∙ first-word records i) (c .word2 .ensures)
+    (λ k. omega (arith, known c .shared-slice-known .given k)) (omega arith) (omega arith) (omega arith)
 
 pub formed-spec : {M : Type 1} → statement M
 formed-spec =
     tie.close
-    (tie.spec
-    mul-at
-    add-record
-    sub-record
-    part-record-start
-    part-record-end
-    shared-slice-read-word
-    shared-slice-read-word-2
-    shared-slice-read-word-3
-    shared-slice-read-word-4
-    word-requires
-    word-requires-2
-    returns)
+    (tie.spec (λ c. search needs) (λ c. search needs) (λ c. search needs) (λ c. search needs) (λ c. search needs) (λ c. search needs)
+    (λ c. search needs) (λ c. search needs) (λ c. search needs) (λ c κs. search needs) (λ c κs. search needs) returns)

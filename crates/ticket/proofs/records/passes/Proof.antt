@@ -1,47 +1,50 @@
+-- The loop keeps whether the records of the rows before this one pass.
+use Prim.Native.Nat.{_+_, _-_, _*_, _≤_}
+use native.Mathlib.Omega.{arith}
+use mathlib.Core.Path.{_≡_, ap, _∙_}
+use Rattle.algebra.specs.Laws.Positions.{row-inside}
+use Rattle.ticket.specs.Laws.All.{all, all-none}
+use Rattle.ticket.specs.Laws.Passing.{passing, rows-passing}
 use Rattle.ticket.proofs.records.passes.Statement.{statement}
 use Rattle.ticket.proofs.records.passes.Tie as tie
 
 abbrev Inv-loop : tie.InvT-loop
-Inv-loop records form ok₀ row₀ start₀ ok row start = ?
+Inv-loop records form ok₀ row₀ start₀ ok row start =
+    (row ≤ form .rows) × (start ≡ row * form .columns) × (ok ≡ all start (passing records form))
 
 abbrev μ-loop : tie.MeasureT-loop
-μ-loop records form ok₀ row₀ start₀ ok row start = ?
+μ-loop records form ok₀ row₀ start₀ ok row start = form .rows - row
+
+abbrev start : tie.Then1 Inv-loop μ-loop → tie.Start Inv-loop μ-loop
+start c = c .before .before .before .before
+
+inside : (c : tie.Then1 Inv-loop μ-loop) → let form = start c .args .form in
+    c .before .before .loop .row * form .columns + form .columns ≤ form .rows * form .columns
+inside c = row-inside (start c .args .form .columns) (c .if1 .taken)
 
 loop-holds : tie.Need-loop-holds Inv-loop μ-loop
-loop-holds c = ?
+loop-holds c = (omega arith, omega arith, all-none _)
 
 row-passes-requires : tie.Need-row-passes-requires Inv-loop μ-loop
-row-passes-requires c κs = ?
-
-cast-start : tie.Need-cast-start Inv-loop μ-loop
-cast-start c = ?
+row-passes-requires c κs = (omega (arith, inside c), start c .pre .range)
 
 add-start : tie.Need-add-start Inv-loop μ-loop
-add-start c = ?
-
-add-row : tie.Need-add-row Inv-loop μ-loop
-add-row c = ?
-
-loop-less : tie.Need-loop-less Inv-loop μ-loop
-loop-less c = ?
+add-start c = omega (arith, inside (c .before .before))
 
 loop-again : tie.Need-loop-again Inv-loop μ-loop
-loop-again c = ?
+loop-again c =
+    let at = c .before .before .before .before in
+    let a = at .before .before .args in
+    (omega arith, omega arith, rows-passing (a .records .now) (a .form) _ (at .loop .inv .1) (at .loop .inv .2) (c .before .row-passes .ensures))
 
 returns : tie.Need-returns Inv-loop μ-loop
-returns c = ?
+returns c =
+    let at = c .before .before in
+    let last : at .loop .row ≡ at .before .before .args .form .rows = omega arith in
+    rw (at .loop .inv .1, last) at (at .loop .inv .2)
 
 pub passes-spec : {M : Type 1} → statement M
 passes-spec =
     tie.close
-    (tie.spec
-    Inv-loop
-    μ-loop
-    loop-holds
-    row-passes-requires
-    cast-start
-    add-start
-    add-row
-    loop-less
-    loop-again
-    returns)
+    (tie.spec Inv-loop μ-loop loop-holds row-passes-requires (λ c. omega arith) add-start (λ c. omega arith) (λ c. omega arith)
+    loop-again returns)

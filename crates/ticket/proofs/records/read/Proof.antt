@@ -1,26 +1,45 @@
+use mathlib.Core.Path.{_≡_, sym, ap, _∙_}
 use borrow.Author.Needs.{needs}
+use Rattle.ticket.specs.Rules.{refusal, settingTests, ticketLength, reading}
+use Rattle.ticket.specs.Laws.Tests.{AllHold}
+use Rattle.ticket.specs.Laws.Limits.{Within, counts, limits-of, setting-holds, clamped-same}
+use Rattle.ticket.specs.Laws.Scans.{after-refused}
+use Rattle.ticket.specs.Laws.Refusals.{by-length, refused-reading, records-read}
 use Rattle.ticket.proofs.records.read.Statement.{statement}
 use Rattle.ticket.proofs.records.read.Tie as tie
 
-number-requires : tie.Need-number-requires
-number-requires c κs = search needs
+abbrev start : tie.Else1 → tie.Start
+start c = c .before .before .before
+
+holds : (c : tie.Else1) → AllHold (settingTests (start c .args .setting))
+holds c = setting-holds (start c .args .setting) (sym (c .before .number .ensures) ∙ c .if1 .left)
+
+limits : (c : tie.Else1) → Within (start c .args .setting)
+limits c = limits-of _ (holds c)
+
+long : (c : tie.After-length) → c .length .result ≡ ticketLength (start (c .before) .args .setting)
+long c = let limits = limits (c .before) in c .length .ensures ∙ ap ticketLength (clamped-same (limits .sizes) (limits .numbers))
 
 returns : tie.Need-returns
-returns c = ?
-
-length-requires : tie.Need-length-requires
-length-requires c κs = search needs
+unfolding reading
+returns c =
+    let number = c .before .number .ensures in
+    ap (λ n. refusal n 0) number ∙ sym (after-refused _ _ (λ e. c .if1 .taken (number ∙ e)))
 
 returns-2 : tie.Need-returns-2
-returns-2 c = ?
+returns-2 c = sym (refused-reading _ _ (by-length (holds (c .before .before)) (λ e. c .if2 .taken (e ∙ sym (long (c .before))))))
 
 read-records-requires : tie.Need-read-records-requires
-read-records-requires c κs = ?
+read-records-requires c κs =
+    let limits = limits (c .before .before) in
+    record { counts = counts (limits .sizes); numbers = limits .numbers; long = c .if2 .left ∙ long (c .before) }
 
 returns-3 : tie.Need-returns-3
-returns-3 c = ?
+returns-3 c =
+    let length = c .before .before in
+    c .read-records .ensures ∙ sym (records-read _ _ (holds (length .before)) (c .before .if2 .left ∙ long length))
 
 pub read-spec : {M : Type 1} → statement M
 read-spec =
     tie.close
-    (tie.spec number-requires returns length-requires returns-2 read-records-requires returns-3)
+    (tie.spec (λ c κs. search needs) returns (λ c κs. search needs) returns-2 read-records-requires returns-3)

@@ -1,43 +1,43 @@
+-- The loop keeps whether the records of the row before this column pass.
+use Prim.Native.Nat.{_+_, _-_, _≤_}
+use native.Mathlib.Omega.{arith}
+use mathlib.Core.Path.{_≡_, ap, _∙_}
+use Rattle.ticket.specs.Laws.All.{all, all-none, all-next}
+use Rattle.ticket.specs.Laws.Passing.{passingAt, rowPassing}
 use Rattle.ticket.proofs.records.row_passes.Statement.{statement}
 use Rattle.ticket.proofs.records.row_passes.Tie as tie
 
 abbrev Inv-loop : tie.InvT-loop
-Inv-loop records form start row ok₀ i₀ column₀ ok i column = ?
+Inv-loop records form start row ok₀ i₀ column₀ ok i column =
+    (column ≤ form .columns) × (i ≡ start + column) × (ok ≡ all column (rowPassing records form start row))
 
 abbrev μ-loop : tie.MeasureT-loop
-μ-loop records form start row ok₀ i₀ column₀ ok i column = ?
+μ-loop records form start row ok₀ i₀ column₀ ok i column = form .columns - column
 
 loop-holds : tie.Need-loop-holds Inv-loop μ-loop
-loop-holds c = ?
+loop-holds c = (omega arith, omega arith, all-none _)
 
 record-passes-requires : tie.Need-record-passes-requires Inv-loop μ-loop
-record-passes-requires c κs = ?
-
-add-i : tie.Need-add-i Inv-loop μ-loop
-add-i c = ?
-
-add-column : tie.Need-add-column Inv-loop μ-loop
-add-column c = ?
-
-loop-less : tie.Need-loop-less Inv-loop μ-loop
-loop-less c = ?
+record-passes-requires c κs = (omega arith, c .before .before .before .before .pre .1)
 
 loop-again : tie.Need-loop-again Inv-loop μ-loop
-loop-again c = ?
+loop-again c =
+    let at = c .before .before .before in
+    let a = at .before .before .args in (
+      omega arith,
+      omega arith,
+      all-next _ (rowPassing (a .records .now) (a .form) (a .start) (a .row)) (at .loop .inv .2)
+          (c .record-passes .ensures ∙ ap (λ k. passingAt (a .records .now) (a .form) k (a .row) (at .loop .column)) (at .loop .inv .1)),
+    )
 
 returns : tie.Need-returns Inv-loop μ-loop
-returns c = ?
+returns c =
+    let at = c .before .before in
+    let last : at .loop .column ≡ at .before .before .args .form .columns = omega arith in
+    rw last at (at .loop .inv .2)
 
 pub row-passes-spec : {M : Type 1} → statement M
 row-passes-spec =
     tie.close
-    (tie.spec
-    Inv-loop
-    μ-loop
-    loop-holds
-    record-passes-requires
-    add-i
-    add-column
-    loop-less
-    loop-again
+    (tie.spec Inv-loop μ-loop loop-holds record-passes-requires (λ c. omega arith) (λ c. omega arith) (λ c. omega arith) loop-again
     returns)
