@@ -2,13 +2,10 @@
 // the list go. A shift is added to each value modulo p, so that what a value in range stands for is not negative: one comparison,
 // where the value is a least residue. What comes of other values is fixed too, and means nothing.
 ghost use mathlib.Core.Path.{_≡_};
-ghost use Prim.Native.Nat.{_+_, _-_, _*_, _≤_, _%_, _^_};
-ghost use lib.IntN.{pos, _-ℤ_};
-ghost use lib.ListN.{length};
+ghost use Prim.Native.Nat.{_+_, _*_, _≤_, _%_, _^_};
 ghost use Rattle.residue.specs.Rules.{modulus};
 ghost use Rattle.residue.specs.Laws.Modulo.{sumOnce};
-ghost use Rattle.algebra.specs.Laws.Fills.{Filled};
-ghost use Rattle.ticket.specs.Laws.Decodes.{decodedCount, claimCount, shiftedAt, narrowShift, narrowed, narrowAt, liftedAt};
+ghost use Rattle.ticket.specs.Laws.Decodes.{narrowed, ShiftedList, NarrowList, LiftedList};
 use crate::parts::RECORD;
 use crate::parts::fewer;
 use crate::parts::value_at;
@@ -23,7 +20,7 @@ const NARROW: u32 = 32_768;
 
 // The values of records, each with a shift added.
 pub fn shifted_entries(records: &[u8], shift: Residue, list: &mut [u32])
-    ensures { λ r. ⌜ Filled 0 (now (list .entry)) (decodedCount (now (records .entry)) (length (now (list .entry)))) (shiftedAt (now (records .entry)) (shift .0)) (now (list .exit)) ⌝ }
+    ensures { λ r. ⌜ ShiftedList (now (records .entry)) (shift .0) (now (list .entry)) (now (list .exit)) ⌝ }
 {
     let shift = shift.0 % Residue::modulus();
     let count = fewer(records.len() / RECORD, list.len());
@@ -36,13 +33,13 @@ pub fn shifted_entries(records: &[u8], shift: Residue, list: &mut [u32])
 
 // The entries that the values of records stand for, where these are 16-bit numbers.
 pub fn narrow_entries(records: &[u8], list: &mut [i16])
-    ensures { λ r. ⌜ Filled (pos 0) (now (list .entry)) (decodedCount (now (records .entry)) (length (now (list .entry)))) (narrowAt (now (records .entry))) (now (list .exit)) ⌝ }
+    ensures { λ r. ⌜ NarrowList (now (records .entry)) (now (list .entry)) (now (list .exit)) ⌝ }
 {
     let count = fewer(records.len() / RECORD, list.len());
-    let mut k = 0;
-    while k < count {
-        list[k] = entry(shifted(value_at(records, k), NARROW)).0 as i16;
-        k += 1;
+    let mut i = 0;
+    while i < count {
+        list[i] = entry(shifted(value_at(records, i), NARROW)).0 as i16;
+        i += 1;
     }
 }
 
@@ -54,7 +51,7 @@ pub fn lifted_claims(
     scale: u32,
     list: &mut [u32],
 )
-    ensures { λ r. ⌜ Filled 0 (now (list .entry)) (claimCount (now (quotients .entry)) (now (remainders .entry)) (length (now (list .entry)))) (liftedAt (now (quotients .entry)) (now (remainders .entry)) (half .0) scale) (now (list .exit)) ⌝ }
+    ensures { λ r. ⌜ LiftedList (now (quotients .entry)) (now (remainders .entry)) (half .0) scale (now (list .entry)) (now (list .exit)) ⌝ }
 {
     let shift = half.0 % Residue::modulus();
     let claims = fewer(quotients.len() / RECORD, remainders.len() / RECORD);

@@ -4,15 +4,15 @@
 --   after-zero    two answers in order have 0 exactly when both have
 --   scan-zero     a scan has 0 exactly when all its numbers are 0
 --   first-past    there is no first place below n at which a test fails exactly when it holds everywhere below n
-use Prim.Native.Nat.{ℕ, zero, suc, _<_}
+use Prim.Native.Nat.{ℕ, _<_}
 use native.Mathlib.Omega.{arith}
 use native.Mathlib.Decide.{ℕ-discrete}
 use mathlib.Core.Path.{_≡_, refl, sym, ap, _∙_}
 use mathlib.Core.Logic.{_↔_, ⊎-elim}
-use mathlib.Core.Bool.{Bool, true, false, false≢true, cond}
+use mathlib.Core.Bool.{Bool, true, false, false≢true}
 use Rattle.ticket.specs.declared.Answer.{Answer}
 use Rattle.ticket.specs.Rules.{first, unless, firstRefusal, after}
-use Rattle.ticket.specs.Laws.First.{first-none}
+use Rattle.ticket.specs.Laws.First.{first-none, first-before}
 use Rattle.ticket.specs.Laws.Scans.{refusal-none, refusal-is, zeros-or-first, after-passed, after-refused}
 
 pub unless-zero : (holds : Bool) (refused rest : Answer) → (refused .number ≡ 0 → ⊥)
@@ -38,17 +38,5 @@ scan-zero start n f = (
   λ z. ap (λ a. a .number) (refusal-none start n f z),
 )
 
--- past a place at which the test holds
-past-one : (b : Bool) (m n : ℕ) → cond b (suc m) 0 ≡ suc n → (b ≡ true) × (m ≡ n)
-past-one true m n e = (refl, omega arith)
-past-one false m n e = absurd (omega arith)
-
-all-hold : (n : ℕ) (f : ℕ → Bool) → first n f ≡ n → (k : ℕ) → k < n → f k ≡ true
-unfolding first
-all-hold zero f e k l = absurd (omega arith)
-all-hold (suc n) f e zero l = past-one (f 0) (first n (λ k. f (suc k))) n e .0
-all-hold (suc n) f e (suc k) l =
-    all-hold n (λ k. f (suc k)) (past-one (f 0) (first n (λ k. f (suc k))) n e .1) k (omega arith)
-
 pub first-past : (n : ℕ) (f : ℕ → Bool) → (first n f ≡ n) ↔ ((k : ℕ) → k < n → f k ≡ true)
-first-past n f = (all-hold n f, first-none n f)
+first-past n f = (λ e k l. first-before n k f (omega arith), first-none n f)

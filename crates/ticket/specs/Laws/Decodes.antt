@@ -3,6 +3,7 @@
 --   decodedCount b n, claimCount q r n   how many records of b, or of both q and r, are decoded to a list of n numbers
 --   shiftedAt b s k       the value of record k of b with s added modulo p, by one comparison
 --   narrowShift, narrowed x, narrowAt b k   2^15; the 16-bit number of a shifted value x; that of record k of b
+--   ShiftedList b s l l', NarrowList b l l', LiftedList q r h a l l'   the list l is filled with these, as far as it goes, to l'
 --   liftedAt q r h a c    the value of record c of q with h added modulo p, times a, and the value of record c of r, modulo 2^32
 --   narrow-fits           such a number has 16 bits
 --   shifted-entry         a value with at least its entry's size added is that entry, shifted
@@ -16,7 +17,7 @@ use Prim.Native.Nat.{ℕ, suc, _+_, _-_, _*_, _/_, _%_, _^_, _≤_, _<_, min}
 use native.Mathlib.Decide.{decLe}
 use native.Mathlib.Nat.{mod-lt, mod-eq-of-lt, min-eq-left, div-add-mod', div-lt-iff-lt-mul, mul-le-mul-right}
 use native.Mathlib.Omega.{arith}
-use mathlib.Core.Path.{_≡_, refl, sym, ap, _∙_}
+use mathlib.Core.Path.{_≡_, sym, ap, _∙_}
 use mathlib.Core.List.{List}
 use lib.Arith.{digits-lt}
 use lib.IntN.{ℤ, pos, negsuc, natAbs, _+ℤ_, _-ℤ_, _*ℤ_}
@@ -30,8 +31,8 @@ use Rattle.residue.specs.Laws.Modulus.{modulus-above, modulus-below, modulus-po
 use Rattle.residue.specs.Laws.Residues.{entry-low, entry-high}
 use Rattle.algebra.specs.Laws.Fills.{Filled}
 use Rattle.ticket.specs.declared.setting.Setting.{Setting}
-use Rattle.ticket.specs.Rules.{halfRange, lift, parts, part, partSize, start, ofA, ofB, ofQuotients, ofRemainders, recordBytes, valueAt, valueIn, shiftedQuotient, entryA, entryB, quotient, remainder, claim}
-use Rattle.ticket.specs.Laws.Limits.{half-small, lift-small, clamped, clamped-same}
+use Rattle.ticket.specs.Rules.{halfRange, lift, parts, part, partSize, ofA, ofB, ofQuotients, ofRemainders, recordBytes, valueAt, valueIn, shiftedQuotient, entryA, entryB, quotient, remainder, claim}
+use Rattle.ticket.specs.Laws.Limits.{half-small, clamped, clamped-same}
 use Rattle.ticket.specs.Laws.Layout.{partBytes, part-bytes-long, value-of-part, value-in}
 use Rattle.ticket.specs.Laws.Passes.{Passed, valid}
 use Rattle.ticket.specs.Laws.Differences.{size-entryA, size-entryB, shifted-below, remainder-below, residue-entryB}
@@ -59,6 +60,16 @@ narrowed shifted = pos (shifted % 65_536) -ℤ pos narrowShift
 
 abbrev pub narrowAt : List ℕ → ℕ → ℤ
 narrowAt bytes k = narrowed (sumOnce modulus (valueAt bytes k) narrowShift)
+
+abbrev pub ShiftedList : List ℕ → ℕ → List ℕ → List ℕ → Type 0
+ShiftedList bytes shift before list = Filled 0 before (decodedCount bytes (length before)) (shiftedAt bytes shift) list
+
+abbrev pub NarrowList : List ℕ → List ℤ → List ℤ → Type 0
+NarrowList bytes before list = Filled (pos 0) before (decodedCount bytes (length before)) (narrowAt bytes) list
+
+abbrev pub LiftedList : List ℕ → List ℕ → ℕ → ℕ → List ℕ → List ℕ → Type 0
+LiftedList quotients remainders half scale before list =
+    Filled 0 before (claimCount quotients remainders (length before)) (liftedAt quotients remainders half scale) list
 
 pub narrow-fits : (shifted : ℕ) → SFits w16 (narrowed shifted)
 narrow-fits shifted =
@@ -130,7 +141,7 @@ module _ {G : Setting} {t : List ℕ} (passed : Passed G t) where
   bound-small = omega (arith, modulus-above, passed .numbers .bound)
 
   module _ {a before : List ℕ} {b : List ℕ} (b-is : b ≡ partBytes (clamped G) t ofA) (room : G .rows * G .inner ≤ length before)
-      (filled : Filled 0 before (decodedCount b (length before)) (shiftedAt b (G .bound)) a) where
+      (filled : ShiftedList b (G .bound) before a) where
     entry-shifted : (i k : ℕ) → i < G .rows → k < G .inner → pos (getD a (i * G .inner + k) 0) ≡ entryA G t i k +ℤ pos (G .bound)
     unfolding parts part entryA
     entry-shifted i k l m =
@@ -159,7 +170,7 @@ module _ {G : Setting} {t : List ℕ} (passed : Passed G t) where
 
   module _ {y before q r : List ℕ} {half : ℕ} (q-is : q ≡ partBytes (clamped G) t ofQuotients) (r-is : r ≡ partBytes (clamped G) t ofRemainders)
       (half-is : half ≡ halfRange (clamped G)) (room : G .rows * G .columns ≤ length before)
-      (filled : Filled 0 before (claimCount q r (length before)) (liftedAt q r half (G .scale)) y) where
+      (filled : LiftedList q r half (G .scale) before y) where
     pub claims-lifted : LiftedClaims G t y
     unfolding parts part claim quotient remainder shiftedQuotient
     claims-lifted =
@@ -212,24 +223,26 @@ module _ {G : Setting} {t : List ℕ} (passed : Passed G t) where
       ∙ equal-of-parts (pos x -ℤ pos narrowShift) z
       (omega (arith, parts-difference (pos x) (pos narrowShift), ap positive shifted, ap negative shifted, parts-sum z (pos narrowShift)))
 
-  module _ {a before : List ℤ} {b : List ℕ} (filled : Filled (pos 0) before (decodedCount b (length before)) (narrowAt b) a) where
+  module _ {a before : List ℤ} {b : List ℕ} (filled : NarrowList b before a) where
+    -- of a part of such entries
+    numbers : (w : ℕ) → b ≡ partBytes (clamped G) t w → partSize (part G w) ≤ length before
+        → (i j : ℕ) → i < part G w .rows → j < part G w .columns → natAbs (signedEntry modulus (valueIn G t w i j)) ≤ G .bound
+        → getD a (i * part G w .columns + j) (pos 0) ≡ signedEntry modulus (valueIn G t w i j)
+    numbers w b-is room i j l m size =
+        let d = decodable passed w b-is in
+        filled .each (i * part G w .columns + j) (rw (counted b (d .long) room) (digits-lt l m))
+        ∙ ap (λ v. narrowed (sumOnce modulus v narrowShift)) (d .each i j l m)
+        ∙ narrow-entry (valueIn G t w i j) (valid passed w i j l m .below) size
+
     pub entries-A : b ≡ partBytes (clamped G) t ofA → G .rows * G .inner ≤ length before
         → (i k : ℕ) → i < G .rows → k < G .inner → getD a (i * G .inner + k) (pos 0) ≡ entryA G t i k
     unfolding parts part entryA
-    entries-A b-is room i k l m =
-        let d = decodable passed ofA b-is in
-        filled .each (i * G .inner + k) (rw (counted b (d .long) room) (digits-lt l m))
-        ∙ ap (λ v. narrowed (sumOnce modulus v narrowShift)) (d .each i k l m)
-        ∙ narrow-entry (valueIn G t ofA i k) (valid passed ofA i k l m .below) (size-entryA passed i k l m)
+    entries-A b-is room i k l m = numbers ofA b-is room i k l m (size-entryA passed i k l m)
 
     pub entries-B : b ≡ partBytes (clamped G) t ofB → G .inner * G .columns ≤ length before
         → (k j : ℕ) → k < G .inner → j < G .columns → getD a (k * G .columns + j) (pos 0) ≡ entryB G t k j
     unfolding parts part entryB
-    entries-B b-is room k j l m =
-        let d = decodable passed ofB b-is in
-        filled .each (k * G .columns + j) (rw (counted b (d .long) room) (digits-lt l m))
-        ∙ ap (λ v. narrowed (sumOnce modulus v narrowShift)) (d .each k j l m)
-        ∙ narrow-entry (valueIn G t ofB k j) (valid passed ofB k j l m .below) (size-entryB passed k j l m)
+    entries-B b-is room k j l m = numbers ofB b-is room k j l m (size-entryB passed k j l m)
 
   pub values-B : {b : List ℕ} → b ≡ partBytes (clamped G) t ofB → (length b ≡ recordBytes * (G .inner * G .columns))
       × ((k j : ℕ) → k < G .inner → j < G .columns → valueAt b (k * G .columns + j) ≡ leastResidue modulus (entryB G t k j))

@@ -11,7 +11,7 @@
 --   value-of                   a record's value is the least residue of what it stands for
 --   claim-decided              a claim is true or untrue
 --   claims-true                a ticket that is false in no column has every claim true
-use Prim.Native.Nat.{ℕ, _+_, _-_, _*_, _/_, _%_, _^_, _≤_, _<_}
+use Prim.Native.Nat.{ℕ, _+_, _*_, _/_, _%_, _^_, _≤_, _<_}
 use native.Mathlib.Nat.{div-add-mod, mul-le-mul-left}
 use native.Mathlib.Omega.{arith}
 use mathlib.Core.Path.{_≡_, refl, _∙_}
@@ -26,7 +26,7 @@ use Rattle.residue.specs.Laws.Modulus.{modulus-positive}
 use Rattle.algebra.specs.Laws.IntegerSums.{size-sum, size-difference, size-product}
 use Rattle.algebra.specs.Laws.MatrixProducts.{size-matrixProduct}
 use Rattle.ticket.specs.declared.setting.Setting.{Setting}
-use Rattle.ticket.specs.Rules.{reach, halfRange, lift, isEntry, shiftedQuotient, parts, part, ofA, ofB, ofQuotients, ofRemainders, valueIn, entryA, entryB, quotient, remainder, claim, exactSum, due, Untrue, FalseIn}
+use Rattle.ticket.specs.Rules.{reach, halfRange, isEntry, shiftedQuotient, parts, part, ofA, ofB, ofQuotients, ofRemainders, valueIn, entryA, entryB, quotient, remainder, claim, exactSum, due, Untrue, FalseIn}
 use Rattle.ticket.specs.Laws.Limits.{half-double}
 use Rattle.ticket.specs.Laws.Passes.{Passed, Valid, valid}
 

@@ -19,7 +19,7 @@ use Prim.Native.Nat.{ℕ, _+_, _-_, _*_, _/_, _%_, _^_, _≤_, _<_}
 use native.Mathlib.Decide.{ℕ-discrete}
 use native.Mathlib.Omega.{arith}
 use mathlib.Core.Path.{_≡_, sym, ap, _∙_}
-use mathlib.Core.Bool.{Bool, true, false}
+use mathlib.Core.Bool.{true, false}
 use mathlib.Core.List.{List, [], _∷_}
 use borrow.Author.Tests.{le-ltb, lt-ltb}
 use lib.Dec.{ltb, eqb}
@@ -34,7 +34,7 @@ use Rattle.algebra.specs.Laws.Fills.{part-of, part-long}
 use Rattle.algebra.specs.Laws.Positions.{Position, position-none, row-of, column-of, position-next, position-row}
 use Rattle.ticket.specs.Rules.{Test, test, firstFailed, recordBytes, byteAt, formed, valueAt, halfRange, refusal, firstRefusal}
 use Rattle.ticket.specs.Laws.Scans.{refusal-is}
-use Rattle.ticket.specs.Laws.Tests.{AllHold, Failed, none, one, here, later, holding-number, failed-number}
+use Rattle.ticket.specs.Laws.Tests.{Failed, none, one, here, later, holding-number, failed-number}
 use Rattle.ticket.specs.declared.Answer.{Answer}
 use Rattle.ticket.specs.declared.setting.Setting.{Setting}
 use Rattle.ticket.specs.declared.records.Form.{Form}

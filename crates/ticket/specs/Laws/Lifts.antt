@@ -4,7 +4,7 @@
 --   lifted-small    a lifted sum is below p, where S is at most as large as a sum can be
 --   lifted-sum      x is the lifted sum, where it is so modulo 2^32
 --   lifted-same     two integers are equal exactly when their lifts are
-use Prim.Native.Nat.{ℕ, _+_, _-_, _*_, _%_, _^_, _≤_, _<_}
+use Prim.Native.Nat.{ℕ, _+_, _-_, _%_, _^_, _≤_, _<_}
 use native.Mathlib.Omega.{arith}
 use mathlib.Core.Path.{_≡_, sym, ap, _∙_}
 use mathlib.Core.Logic.{_↔_}

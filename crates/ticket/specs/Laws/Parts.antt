@@ -10,11 +10,11 @@
 --   ReadTo G t w a     a is the answer of the parts before w
 --   read-none, read-next, read-all   no part, one more, and all
 use Prim.Native.Nat.{ℕ, zero, suc, _+_, _-_, _*_, _/_, _%_, _^_, _≤_, _<_}
-use native.Mathlib.Nat.{mod-eq-of-lt}
+use native.Mathlib.Nat.{add-zero, mod-eq-of-lt}
 use native.Mathlib.Decide.{decLe}
 use native.Mathlib.Omega.{arith}
 use mathlib.Core.Path.{_≡_, refl, sym, ap, _∙_}
-use mathlib.Core.Bool.{Bool, true}
+use mathlib.Core.Bool.{Bool}
 use mathlib.Core.List.{List, [], _∷_}
 use borrow.Author.Tests.{lt-ltb, le-ltb, le-leb, lt-leb}
 use lib.Dec.{leb, ltb}
@@ -27,8 +27,7 @@ use Rattle.residue.specs.Laws.Modulus.{modulus-positive, modulus-above}
 use Rattle.ticket.specs.declared.setting.Setting.{Setting}
 use Rattle.ticket.specs.declared.Answer.{Answer}
 use Rattle.ticket.specs.declared.records.Form.{Form}
-use Rattle.ticket.specs.Rules.{Test, firstFailed, Part, parts, part, partSize, start, records, holder, isEntry, isQuotient, shiftedQuotient, recordBytes, ticketLength, formed, valueAt, partTests, recordTests, recordNumber, refusal, firstRefusal, after}
-use Rattle.ticket.specs.Laws.First.{true-or-false}
+use Rattle.ticket.specs.Rules.{test, firstFailed, Part, parts, part, partSize, start, records, isEntry, isQuotient, shiftedQuotient, ticketLength, formed, valueAt, partTests, recordTests, recordNumber, refusal, firstRefusal, after}
 use Rattle.ticket.specs.Laws.Limits.{Numbers, Counts, half-small, half-double, clamped, clamped-same}
 use Rattle.ticket.specs.Laws.Layout.{no-parts, one-part, part-all, parts-are, start-none, start-next, ends-within, start-past, holder-at, partBytes, part-bytes-long, form-of-part, value-of-part}
 use Rattle.ticket.specs.Laws.Scans.{refusal-none, refusal-cong, refusal-split}
@@ -67,6 +66,12 @@ pub record MakesTests (F : Form) (P : Part) : Type 0 where
   pub range : (v : ℕ) → v < modulus → ltb ((v + F .shift) % modulus) (F .limit) ≡ P .range v
   pub ranged : Ranged F
 
+by-shift : (F : Form) (range : ℕ → Bool) → ((v : ℕ) → v < modulus → ltb ((v + F .shift) % modulus) (F .limit) ≡ range v)
+    → F .shift ≤ F .limit → F .limit ≤ modulus
+    → MakesTests F (record { kind = F .kind; rows = F .rows; columns = F .columns; range = range; outside = F .outside })
+by-shift F range same shift limit =
+    record { kind = refl; rows = refl; columns = refl; outside = refl; range = same; ranged = record { shift = shift; limit = limit } }
+
 module _ {G : Setting} (numbers : Numbers G) where
   entries : (v : ℕ) → v < modulus → ltb ((v + G .bound) % modulus) (2 * G .bound + 1) ≡ isEntry (G .bound) v
   unfolding isEntry
@@ -74,54 +79,22 @@ module _ {G : Setting} (numbers : Numbers G) where
 
   pub forms-make : (w : ℕ) → w < 4 → MakesTests (formOf G w) (part G w)
   unfolding formsOf formOf parts part shiftedQuotient
-  forms-make zero m =
-      record {
-        kind = refl;
-        rows = refl;
-        columns = refl;
-        outside = refl;
-        range = entries;
-        ranged = record { shift = omega arith; limit = omega (arith, modulus-above) };
-      }
-  forms-make (suc zero) m =
-      record {
-        kind = refl;
-        rows = refl;
-        columns = refl;
-        outside = refl;
-        range = entries;
-        ranged = record { shift = omega arith; limit = omega (arith, modulus-above) };
-      }
+  forms-make zero m = by-shift (formOf G 0) (isEntry (G .bound)) entries (omega arith) (omega (arith, modulus-above))
+  forms-make (suc zero) m = by-shift (formOf G 1) (isEntry (G .bound)) entries (omega arith) (omega (arith, modulus-above))
   forms-make (suc (suc zero)) m =
-      record {
-        kind = refl;
-        rows = refl;
-        columns = refl;
-        outside = refl;
-        range = λ v l. rw (half-double {G = G} numbers);
-        ranged = record { shift = omega arith; limit = omega (arith, half-small {G = G} numbers, modulus-above) };
-      }
+      by-shift (formOf G 2) (isQuotient (G .width)) (λ v l. rw (half-double {G = G} numbers)) (omega arith)
+      (omega (arith, half-small {G = G} numbers, modulus-above))
   forms-make (suc (suc (suc zero))) m =
-      record {
-        kind = refl;
-        rows = refl;
-        columns = refl;
-        outside = refl;
-        range = λ v l. ap (λ n. ltb n (G .scale)) (ap (λ n. n % modulus) (omega arith) ∙ mod-eq-of-lt l);
-        ranged = record { shift = omega arith; limit = omega (arith, modulus-above) };
-      }
+      by-shift (formOf G 3) (λ v. ltb v (G .scale)) (λ v l. rw (add-zero v, mod-eq-of-lt l)) (omega arith) (omega (arith, modulus-above))
   forms-make (suc (suc (suc (suc w)))) m = absurd (omega arith)
 
 -- the range of a value matters only where the value is below p
-number-range : (form : Bool) (value : ℕ) (a b : Bool) (outside : ℕ) → (value < modulus → a ≡ b) → let before : List Test = [] in
-    firstFailed (record { holds = form; number = 5 } ∷ record { holds = ltb value modulus; number = 6 } ∷ record { holds = a; number = outside } ∷ before)
-    ≡ firstFailed (record { holds = form; number = 5 } ∷ record { holds = ltb value modulus; number = 6 } ∷ record { holds = b; number = outside } ∷ before)
+number-range : (form : Bool) (value : ℕ) (a b : Bool) (outside : ℕ) → (value < modulus → a ≡ b)
+    → firstFailed (test form 5 ∷ test (ltb value modulus) 6 ∷ test a outside ∷ [])
+    ≡ firstFailed (test form 5 ∷ test (ltb value modulus) 6 ∷ test b outside ∷ [])
 unfolding firstFailed
 number-range form value a b outside h =
-    elim (decLe modulus value) [
-      | yes large ↦ rw (le-ltb value modulus large)
-      | no small ↦ rw (h (omega arith))
-    ]
+    elim (decLe modulus value) [ yes large ↦ rw (le-ltb value modulus large) | no small ↦ rw (h (omega arith)) ]
 
 -- setting and length pass
 pub record ReadReady (G : Setting) (t : List ℕ) : Type 0 where

@@ -7,9 +7,9 @@
 --   Valid P x        the value x is a least residue, and in range for the part P
 --   record-formed    a record of a ticket that passes has the form of its part, row and column
 --   valid            a value of such a ticket is valid for its part
-use Prim.Native.Nat.{ℕ, _+_, _*_, _≤_, _<_}
+use Prim.Native.Nat.{ℕ, _≤_, _<_}
 use native.Mathlib.Omega.{arith}
-use mathlib.Core.Path.{_≡_, ap, _∙_}
+use mathlib.Core.Path.{_≡_}
 use mathlib.Core.Bool.{true}
 use mathlib.Core.List.{List}
 use borrow.Author.Tests.{eq-eqb, eqb-true, ltb-true}
@@ -17,11 +17,11 @@ use lib.Dec.{eqb}
 use lib.ListN.{length}
 use Rattle.residue.specs.Rules.{modulus}
 use Rattle.ticket.specs.declared.setting.Setting.{Setting}
-use Rattle.ticket.specs.Rules.{Passes, settingTests, settingNumber, reading, recordsReading, ticketLength, records, recordTests, recordNumber, refusal, firstRefusal, Part, parts, part, start, formed, valueAt, valueIn}
+use Rattle.ticket.specs.Rules.{Passes, settingTests, settingNumber, reading, recordsReading, ticketLength, records, recordTests, recordNumber, refusal, firstRefusal, Part, parts, part, formed, valueAt, valueIn}
 use Rattle.ticket.specs.Laws.Answers.{unless-zero, after-zero, scan-zero}
 use Rattle.ticket.specs.Laws.Tests.{AllHold, first-holds, rest-hold, Numbered, tests-hold, holding-number}
 use Rattle.ticket.specs.Laws.Limits.{Counts, Numbers, Fitted, counts, limits-of, setting-holds}
-use Rattle.ticket.specs.Laws.Layout.{Each, one-part, no-parts, part-all, Located, located-at, record-at, locatedTests, tests-located}
+use Rattle.ticket.specs.Laws.Layout.{one-part, no-parts, part-all, Located, located-at, record-at, locatedTests, tests-located}
 
 pub record Passed (G : Setting) (t : List ℕ) : Type 0 where
   pub setting : AllHold (settingTests G)

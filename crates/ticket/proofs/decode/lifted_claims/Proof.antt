@@ -2,7 +2,7 @@
 use Prim.Native.Nat.{_+_, _-_, _*_, _%_, _^_, _≤_}
 use native.Mathlib.Nat.{mod-lt}
 use native.Mathlib.Omega.{arith}
-use mathlib.Core.Path.{_≡_, refl, ap, _∙_}
+use mathlib.Core.Path.{_≡_, _∙_}
 use borrow.Author.Needs.{needs}
 use Rattle.residue.specs.Rules.{modulus}
 use Rattle.residue.specs.Laws.Modulo.{sumOnce}

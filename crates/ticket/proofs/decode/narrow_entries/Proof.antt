@@ -1,4 +1,4 @@
--- The loop keeps the entries of the records before k in the list.
+-- The loop keeps the entries of the records before i in the list.
 use Prim.Native.Nat.{_-_, _≤_}
 use native.Mathlib.Omega.{arith}
 use mathlib.Core.Path.{_≡_, _∙_}
@@ -14,10 +14,10 @@ use Rattle.ticket.proofs.decode.narrow_entries.Statement.{statement}
 use Rattle.ticket.proofs.decode.narrow_entries.Tie as tie
 
 abbrev Inv-loop : tie.InvT-loop
-Inv-loop records list₀ count k₀ list k = (k ≤ count) × Filled (pos 0) list₀ k (narrowAt records) list
+Inv-loop records list₀ count i₀ list i = (i ≤ count) × Filled (pos 0) list₀ i (narrowAt records) list
 
 abbrev μ-loop : tie.MeasureT-loop
-μ-loop records list₀ count k₀ list k = count - k
+μ-loop records list₀ count i₀ list i = count - i
 
 loop-holds : tie.Need-loop-holds Inv-loop μ-loop
 loop-holds c = (omega arith, filled-none)
@@ -48,7 +48,7 @@ loop-again c =
 returns : tie.Need-returns Inv-loop μ-loop
 returns c =
     let at = c .before in
-    let all : at .loop .k ≡ at .before .fewer .result = omega arith in
+    let all : at .loop .i ≡ at .before .fewer .result = omega arith in
     rw (← at .before .fewer .ensures, ← all) (at .loop .inv .1)
 
 pub narrow-entries-spec : {M : Type 1} → statement M

@@ -1,5 +1,5 @@
 -- The loop keeps the values of the records before k in the list, each with the shift added.
-use Prim.Native.Nat.{_-_, _%_, _≤_}
+use Prim.Native.Nat.{_-_, _≤_}
 use native.Mathlib.Nat.{mod-lt}
 use native.Mathlib.Omega.{arith}
 use mathlib.Core.Path.{_≡_, _∙_}

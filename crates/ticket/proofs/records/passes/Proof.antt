@@ -1,7 +1,7 @@
 -- The loop keeps whether the records of the rows before this one pass.
 use Prim.Native.Nat.{_+_, _-_, _*_, _≤_}
 use native.Mathlib.Omega.{arith}
-use mathlib.Core.Path.{_≡_, ap, _∙_}
+use mathlib.Core.Path.{_≡_}
 use Rattle.algebra.specs.Laws.Positions.{row-inside}
 use Rattle.ticket.specs.Laws.All.{all, all-none}
 use Rattle.ticket.specs.Laws.Passing.{passing, rows-passing}
