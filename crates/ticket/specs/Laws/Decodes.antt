@@ -3,9 +3,9 @@
 --   decodedCount b n, claimCount q r n   how many records of b, or of both q and r, are decoded to a list of n numbers
 --   shiftedAt b s k       the value of record k of b with s added modulo p, by one comparison
 --   narrowShift, narrowed x, narrowAt b k   2^15; the 16-bit number of a shifted value x; that of record k of b
---   ShiftedList b s l l', NarrowList b l l', LiftedList q r h a l l'   the list l is filled with these, as far as it goes, to l'
 --   liftedAt q r h a c    the value of record c of q with h added modulo p, times a, and the value of record c of r, modulo 2^32
---   narrow-fits           such a number has 16 bits
+--   ShiftedList b s l l', NarrowList b l l', LiftedList q r h a l l'   the list l' is l, filled with these as far as records and l go
+--   narrow-fits           the number of a shifted value has 16 bits
 --   shifted-entry         a value with at least its entry's size added is that entry, shifted
 --   Decodable G t w b     b are the bytes of part w, decoded whole
 --   decodable             so are those that the code takes from a ticket that passes
@@ -15,7 +15,7 @@
 --   values-B              the values of the records of B
 use Prim.Native.Nat.{ℕ, suc, _+_, _-_, _*_, _/_, _%_, _^_, _≤_, _<_, min}
 use native.Mathlib.Decide.{decLe}
-use native.Mathlib.Nat.{mod-lt, mod-eq-of-lt, min-eq-left, div-add-mod', div-lt-iff-lt-mul, mul-le-mul-right}
+use native.Mathlib.Nat.{mod-lt, mod-eq-of-lt, div-add-mod', div-lt-iff-lt-mul, mul-le-mul-right}
 use native.Mathlib.Omega.{arith}
 use mathlib.Core.Path.{_≡_, sym, ap, _∙_}
 use mathlib.Core.List.{List}
@@ -108,19 +108,6 @@ module _ {G : Setting} {t : List ℕ} (passed : Passed G t) where
             ap (λ x. valueAt x (i * part G w .columns + j)) is ∙ value-of-part G t w (digits-lt l m) ∙ sym (value-in G t w i j);
       }
 
--- all records of a part are decoded, where there is room for them
-counted : (b : List ℕ) {n size : ℕ} → length b ≡ recordBytes * n → n ≤ size → decodedCount b size ≡ n
-counted b {n} {size} long room =
-    let same : length b / recordBytes ≡ n = rw long (omega arith) in
-    rw (same, min-eq-left room)
-
-both-counted : (q r : List ℕ) {n size : ℕ} → length q ≡ recordBytes * n → length r ≡ recordBytes * n → n ≤ size → claimCount q r size ≡ n
-both-counted q r {n} {size} long-q long-r room =
-    let same-q : length q / recordBytes ≡ n = rw long-q (omega arith) in
-    let same-r : length r / recordBytes ≡ n = rw long-r (omega arith) in
-    let least : min n n ≡ n = min-eq-left (omega arith) in
-    rw (same-q, same-r, least, min-eq-left room)
-
 pub record ShiftedEntries (G : Setting) (t a : List ℕ) : Type 0 where
   pub long : G .rows * G .inner ≤ length a
   pub entry : (i k : ℕ) → i < G .rows → k < G .inner → pos (getD a (i * G .inner + k) 0) ≡ entryA G t i k +ℤ pos (G .bound)
@@ -147,7 +134,7 @@ module _ {G : Setting} {t : List ℕ} (passed : Passed G t) where
     entry-shifted i k l m =
         let d = decodable passed ofA b-is in
         let value = valueIn G t ofA i k in
-        let inside : i * G .inner + k < decodedCount b (length before) = rw (counted b (d .long) room) (digits-lt l m) in
+        let inside : i * G .inner + k < decodedCount b (length before) = omega (arith, d .long, digits-lt l m) in
         let reduced : G .bound % modulus ≡ G .bound = mod-eq-of-lt (bound-small .2) in
         ap pos (filled .each (i * G .inner + k) inside ∙ rw (d .each i k l m, reduced))
         ∙ shifted-entry modulus modulus-positive (G .bound) value (bound-small .1) (valid passed ofA i k l m .below) (size-entryA passed i k l m)
@@ -182,23 +169,23 @@ module _ {G : Setting} {t : List ℕ} (passed : Passed G t) where
               let value = valueIn G t ofQuotients i j in
               let shifted = shiftedQuotient (G .width) value in
               let left = valueIn G t ofRemainders i j in
-              let inside : i * G .columns + j < claimCount q r (length before) = rw (both-counted q r (d .long) (e .long) room) (digits-lt l m) in
+              let inside : i * G .columns + j < claimCount q r (length before) = omega (arith, d .long, e .long, digits-lt l m) in
               let same : half ≡ halfRange G = half-is ∙ ap halfRange (clamped-same (passed .counts .sizes) (passed .numbers)) in
-              let reduced : halfRange G % modulus ≡ halfRange G = mod-eq-of-lt (omega (arith, half-small {G = G} (passed .numbers), modulus-above)) in
-              let once = sum-once modulus value (halfRange G) (valid passed ofQuotients i j l m .below) (omega (arith, half-small {G = G} (passed .numbers), modulus-above)) in
+              let small : halfRange G < modulus = omega (arith, half-small {G = G} (passed .numbers), modulus-above) in
+              let once = sum-once modulus value (halfRange G) (valid passed ofQuotients i j l m .below) (omega arith) in
               let scaled = mul-le-mul-right (G .scale) (shifted-below passed i j l m) in
               let few : shifted * G .scale + left < 2 ^ 32 =
               omega (arith, scaled, passed .fitted .claims, modulus-below, remainder-below passed i j l m) in
-              ap pos (filled .each (i * G .columns + j) inside ∙ rw (d .each i j l m, e .each i j l m, same, reduced, once, mod-eq-of-lt few))
-              ∙ claim-lifted i j;
+              ap pos (
+              filled .each (i * G .columns + j) inside
+              ∙ rw (d .each i j l m, e .each i j l m, same, mod-eq-of-lt small, once, mod-eq-of-lt few)
+              )
+              ∙ claim-lifted shifted left;
         }
       where
-        -- the shifted quotient times the scale, and the remainder, is the claim, lifted
-        claim-lifted : (i j : ℕ) → let s = shiftedQuotient (G .width) (valueIn G t ofQuotients i j) in let r = valueIn G t ofRemainders i j in
-            pos (s * G .scale + r) ≡ claim G t i j +ℤ pos (lift G)
-        claim-lifted i j =
-            let s = shiftedQuotient (G .width) (valueIn G t ofQuotients i j) in
-            let r = valueIn G t ofRemainders i j in
+        -- a shifted quotient times the scale, and a remainder, is the claim of the two, lifted
+        claim-lifted : (s r : ℕ) → pos (s * G .scale + r) ≡ pos (G .scale) *ℤ (pos s -ℤ pos (halfRange G)) +ℤ pos r +ℤ pos (lift G)
+        claim-lifted s r =
             let q = pos s -ℤ pos (halfRange G) in
             let scaled = pos (G .scale) *ℤ q in
             equal-of-parts (pos (s * G .scale + r)) (scaled +ℤ pos r +ℤ pos (lift G))
@@ -211,7 +198,8 @@ module _ {G : Setting} {t : List ℕ} (passed : Passed G t) where
             ))
 
   -- an entry as a 16-bit number
-  narrow-entry : (v : ℕ) → v < modulus → natAbs (signedEntry modulus v) ≤ G .bound → narrowed (sumOnce modulus v narrowShift) ≡ signedEntry modulus v
+  narrow-entry : (v : ℕ) → v < modulus → natAbs (signedEntry modulus v) ≤ G .bound
+      → narrowed (sumOnce modulus v narrowShift) ≡ signedEntry modulus v
   narrow-entry v least size =
       let shifted = shifted-entry modulus modulus-positive narrowShift v (bound-small .0) least (omega (arith, passed .numbers .bound)) in
       let x = sumOnce modulus v narrowShift in
@@ -230,7 +218,7 @@ module _ {G : Setting} {t : List ℕ} (passed : Passed G t) where
         → getD a (i * part G w .columns + j) (pos 0) ≡ signedEntry modulus (valueIn G t w i j)
     numbers w b-is room i j l m size =
         let d = decodable passed w b-is in
-        filled .each (i * part G w .columns + j) (rw (counted b (d .long) room) (digits-lt l m))
+        filled .each (i * part G w .columns + j) (omega (arith, d .long, digits-lt l m))
         ∙ ap (λ v. narrowed (sumOnce modulus v narrowShift)) (d .each i j l m)
         ∙ narrow-entry (valueIn G t w i j) (valid passed w i j l m .below) size
 

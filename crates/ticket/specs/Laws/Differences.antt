@@ -2,13 +2,13 @@
 -- compared with.
 --
 --   size-entryA, size-entryB   an entry is at most the bound in size
---   size-quotient              a quotient is at most half of the quotients' range in size
---   small-remainder            a remainder is a natural number below the scale
+--   shifted-below, size-quotient   a shifted quotient is in its range, and a quotient is at most half of it in size
+--   remainder-below, small-remainder   a remainder is a natural number below the scale
 --   claim-is, due-is           what a claim puts for its sum, and what it is compared with, written out
 --   size-sum-of                an exact sum of entries within the bound is at most as large as a sum can be
 --   size-due                   so is what a claim is compared with
 --   claims-close               a claim and what it is compared with are less than p apart
---   value-of                   a record's value is the least residue of what it stands for
+--   residue-entryA, residue-entryB, residue-quotient, residue-remainder   a record's value is the least residue of what it stands for
 --   claim-decided              a claim is true or untrue
 --   claims-true                a ticket that is false in no column has every claim true
 use Prim.Native.Nat.{ℕ, _+_, _*_, _/_, _%_, _^_, _≤_, _<_}

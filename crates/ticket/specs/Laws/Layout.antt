@@ -1,10 +1,10 @@
 -- The layout of a ticket: record numbers and their part, row and column (T4). Everything is over the list of parts; a part more or
--- less changes no line here but those of `PartsAre`.
+-- less changes no line here but those of `PartsAre` and of the three laws after it.
 --
---   part-all              what holds of each part of a list holds of part w
+--   Each Q l, part-all    Q holds of each part of l; then it holds of part w
 --   start-none, start-next, ends-within   where the parts start: the first at 0, each other one where the one before it ends
 --   records-end           past the last part there are no records
---   holder-at, held       the part that holds a record
+--   holder-at, Held G k w, held   the part that holds a record
 --   PartsAre G, parts-are the sizes of the parts by name, and where each starts
 --   size-claims           the size of a part of claims
 --   size-past, start-past past the last part there are no records, and all come before

@@ -6,7 +6,7 @@
 --   record-numbered  the numbers of a record's tests are 5 to 9
 --   Valid P x        the value x is a least residue, and in range for the part P
 --   record-formed    a record of a ticket that passes has the form of its part, row and column
---   valid            a value of such a ticket is valid for its part
+--   record-valid, valid   its value, and each by part, row and column, is valid for its part
 use Prim.Native.Nat.{ℕ, _≤_, _<_}
 use native.Mathlib.Omega.{arith}
 use mathlib.Core.Path.{_≡_}
