@@ -89,10 +89,10 @@ impl Setting {
         if part == 1 {
             return s.inner * s.columns;
         }
-        if part < 4 {
-            return s.rows * s.columns;
+        if 4 <= part {
+            return 0;
         }
-        0
+        s.rows * s.columns
     }
 
     // The number of the first record of a part; past the last part, how many records a ticket has.

@@ -5,7 +5,7 @@
 --   narrowShift, narrowed x, narrowAt b k   2^15; the 16-bit number of a shifted value x; that of record k of b
 --   liftedAt q r h a c    the value of record c of q with h added modulo p, times a, and the value of record c of r, modulo 2^32
 --   ShiftedList b s l l', NarrowList b l l', LiftedList q r h a l l'   the list l' is l, filled with these as far as records and l go
---   narrow-fits           the number of a shifted value has 16 bits
+--   narrow-bits           the number of a shifted value has 16 bits
 --   shifted-entry         a value with at least its entry's size added is that entry, shifted
 --   Decodable G t w b     b are the bytes of part w, decoded whole
 --   decodable             so are those that the code takes from a ticket that passes
@@ -71,8 +71,8 @@ abbrev pub LiftedList : List ℕ → List ℕ → ℕ → ℕ → List ℕ → L
 LiftedList quotients remainders half scale before list =
     Filled 0 before (claimCount quotients remainders (length before)) (liftedAt quotients remainders half scale) list
 
-pub narrow-fits : (shifted : ℕ) → SFits w16 (narrowed shifted)
-narrow-fits shifted =
+pub narrow-bits : (shifted : ℕ) → SFits w16 (narrowed shifted)
+narrow-bits shifted =
     from-parts (narrowed shifted) (shifted % 65_536) (difference-of-naturals (shifted % 65_536) narrowShift) (omega arith)
   where
     from-parts : (z : ℤ) (n : ℕ) → positive z + narrowShift ≡ n + negative z → n < 2 * narrowShift → SFits w16 z

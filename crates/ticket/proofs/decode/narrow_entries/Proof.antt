@@ -9,7 +9,7 @@ use borrow.Author.Needs.{needs}
 use Rattle.residue.specs.Laws.Modulus.{modulus-above}
 use Rattle.residue.specs.Laws.Signed.{read-fits, read-stored}
 use Rattle.algebra.specs.Laws.Fills.{Filled, filled-none, filled-more}
-use Rattle.ticket.specs.Laws.Decodes.{narrowAt, narrow-fits}
+use Rattle.ticket.specs.Laws.Decodes.{narrowAt, narrow-bits}
 use Rattle.ticket.proofs.decode.narrow_entries.Statement.{statement}
 use Rattle.ticket.proofs.decode.narrow_entries.Tie as tie
 
@@ -26,7 +26,7 @@ shifted-requires : tie.Need-shifted-requires Inv-loop μ-loop
 shifted-requires c κs = omega (arith, modulus-above)
 
 fits : (c : tie.After-entry Inv-loop μ-loop) → SFits w16 (c .entry .result .0)
-fits c = rw (c .entry .ensures) (narrow-fits (c .before .shifted .result .0))
+fits c = rw (c .entry .ensures) (narrow-bits (c .before .shifted .result .0))
 
 cast-list : tie.Need-cast-list Inv-loop μ-loop
 cast-list c = read-fits w32 tt (fits (c .before .before))

@@ -10,6 +10,9 @@ use Rattle.ticket.proofs.records.record_number.Tie as tie
 abbrev start : tie.Else1 → tie.Start
 start c = c .before .before .before
 
+abbrev value : tie.After-is-least → tie.After-value-at
+value c = c .before
+
 form : (c : tie.Else1) → let a = start c .args in formed (a .records .now) (a .i) (a .form .kind) (a .row) (a .column) ≡ true
 form c = sym (c .before .formed .ensures) ∙ not-false _ (c .if1 .left)
 
@@ -18,25 +21,25 @@ returns c = tested-misformed _ _ _ _ _ (sym (c .before .formed .ensures) ∙ not
 
 returns-2 : tie.Need-returns-2
 returns-2 c =
-    let value = c .before .before in
-    tested-large _ _ _ _ _ (form (value .before)) (value .value-at .ensures) (sym (c .before .is-least .ensures) ∙ not-true _ (c .if2 .taken))
+    let v = value (c .before) in
+    tested-large _ _ _ _ _ (form (v .before)) (v .value-at .ensures) (sym (c .before .is-least .ensures) ∙ not-true _ (c .if2 .taken))
 
 returns-3 : tie.Need-returns-3
 returns-3 c =
     let least = c .before .before .before in
-    let value = least .before .before in
-    tested-outside _ _ _ _ _ (form (value .before)) (value .value-at .ensures)
+    let v = value (least .before) in
+    tested-outside _ _ _ _ _ (form (v .before)) (v .value-at .ensures)
     (sym (least .before .is-least .ensures) ∙ not-false _ (least .if2 .left)) (c .before .before .add .ensures) (c .if3 .taken)
 
 returns-4 : tie.Need-returns-4
 returns-4 c =
     let least = c .before .before .before in
-    let value = least .before .before in
-    tested-passed _ _ _ _ _ (form (value .before)) (value .value-at .ensures)
+    let v = value (least .before) in
+    tested-passed _ _ _ _ _ (form (v .before)) (v .value-at .ensures)
     (sym (least .before .is-least .ensures) ∙ not-false _ (least .if2 .left)) (c .before .before .add .ensures) (c .if3 .left)
 
 pub record-number-spec : {M : Type 1} → statement M
 record-number-spec =
     tie.close
-    (tie.spec (λ c κs. search needs) returns (λ c κs. search needs) (λ c κs. search needs) returns-2 (λ c κs. search needs) returns-3
-    returns-4)
+    (tie.spec (λ c κs. search needs) returns (λ c κs. search needs) (λ c κs. search needs) returns-2 (λ c κs. search needs)
+    returns-3 returns-4)

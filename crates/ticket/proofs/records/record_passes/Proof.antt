@@ -6,10 +6,11 @@ use Rattle.ticket.proofs.records.record_passes.Tie as tie
 
 returns : tie.Need-returns
 returns c =
-    let value = c .before .before .before in
-    let start = value .before .before .before .before .before in
-    record-passing _ _ _ _ _ (start .pre .1) (c .before .before .formed .ensures) (value .value-at .ensures) (c .before .is-least .ensures)
-    (value .before .before .modulus .ensures) (omega arith) (c .wrapping-sub-u32 .ensures)
+    let form = c .before .before in
+    let modulus = form .before .before .before in
+    let start = modulus .before .before .before in
+    record-passing _ _ _ _ _ (start .pre .1) (form .formed .ensures) (form .before .value-at .ensures) (c .before .is-least .ensures)
+    (modulus .modulus .ensures) (omega arith) (c .wrapping-sub-u32 .ensures)
 
 pub record-passes-spec : {M : Type 1} → statement M
 record-passes-spec =

@@ -15,12 +15,12 @@ unfolding parts part
 returns-2 c = rw (c .before .if2 .taken, c .before .before .before .clamped .ensures .0)
 
 returns-3 : tie.Need-returns-3
-returns-3 c = rw (c .before .before .before .before .clamped .ensures .0) (sym (size-claims _ (omega arith) (omega arith)))
+returns-3 c = sym (size-past _ (omega arith))
 
 returns-4 : tie.Need-returns-4
-returns-4 c = sym (size-past _ (omega arith))
+returns-4 c = rw (c .before .before .before .before .clamped .ensures .0) (sym (size-claims _ (omega arith) (omega arith)))
 
 pub size-spec : {M : Type 1} → statement M
 size-spec =
     tie.close
-    (tie.spec (λ c κs. search needs) (λ c. search needs) returns (λ c. search needs) returns-2 (λ c. search needs) returns-3 returns-4)
+    (tie.spec (λ c κs. search needs) (λ c. search needs) returns (λ c. search needs) returns-2 returns-3 (λ c. search needs) returns-4)
