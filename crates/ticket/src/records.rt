@@ -2,7 +2,7 @@
 ghost use mathlib.Core.Path.{_≡_};
 ghost use Prim.Native.Nat.{_+_, _*_, _^_, _≤_, _<_};
 ghost use lib.ListN.{length};
-ghost use Rattle.ticket.specs.Rules.{after, reading, recordBytes, records, recordNumber, firstRefusal, formed};
+ghost use Rattle.ticket.specs.Rules.{reading, recordBytes, records, recordNumber, firstRefusal, formed};
 ghost use Rattle.ticket.specs.Laws.Limits.{Sizes, Numbers};
 ghost use Rattle.ticket.specs.Laws.All.{all};
 ghost use Rattle.ticket.specs.Laws.Forms.{formOf, partAnswer, testedAt, Holds, Ranged};
@@ -55,26 +55,27 @@ pub fn read(setting: Setting, ticket: &[u8]) -> Answer
     read_records(setting, ticket)
 }
 
-// The answer of the tests 5 to 9, where setting and length pass the tests before them: part after part.
+// The answer of the tests 5 to 9, where setting and length pass the tests before them: that of the first part that does not pass.
 fn read_records(setting: Setting, ticket: &[u8]) -> Answer
     requires { ⌜ ReadReady setting (now ticket) ⌝ }
     ensures { λ r. ⌜ r ≡ firstRefusal 0 (records setting) (recordNumber setting (now (ticket .entry))) ⌝ }
 {
-    let a = read_part(Answer::PASSED, setting, ticket, PartNumber::A);
-    let b = read_part(a, setting, ticket, PartNumber::B);
-    let quotients = read_part(b, setting, ticket, PartNumber::QUOTIENTS);
-    read_part(quotients, setting, ticket, PartNumber::REMAINDERS)
+    let mut which: u32 = 0;
+    while which < PartNumber::COUNT {
+        let answer = read_part(setting, ticket, PartNumber(which));
+        if answer.number != 0 {
+            return answer;
+        }
+        which += 1;
+    }
+    Answer::PASSED
 }
 
-// The earlier answer, where it refuses; else that of a part. The tests are made without a branch first; one by one, for the first
-// that fails, only where some record fails.
-fn read_part(earlier: Answer, setting: Setting, ticket: &[u8], which: PartNumber) -> Answer
+// The answer of a part. The tests are made without a branch first; one by one, for the first that fails, only where some record fails.
+fn read_part(setting: Setting, ticket: &[u8], which: PartNumber) -> Answer
     requires { ⌜ PartReady setting (now ticket) (which .0) ⌝ }
-    ensures { λ r. ⌜ r ≡ after earlier (partRead setting (now (ticket .entry)) (which .0)) ⌝ }
+    ensures { λ r. ⌜ r ≡ partRead setting (now (ticket .entry)) (which .0) ⌝ }
 {
-    if earlier.number != 0 {
-        return earlier;
-    }
     let form = form_of(setting, which);
     let records = part(setting, ticket, which);
     if (SHORT_ROW < form.columns) && passes(records, form) {
@@ -92,7 +93,6 @@ fn form_of(setting: Setting, which: PartNumber) -> Form
     let rows = setting.rows as u8;
     let inner = setting.inner as u8;
     let columns = setting.columns as u8;
-    let half = setting.half().0;
     let entries = 2 * setting.bound + 1;
     if part == 0 {
         return Form {
@@ -115,6 +115,7 @@ fn form_of(setting: Setting, which: PartNumber) -> Form
         };
     }
     if part == 2 {
+        let half = setting.half().0;
         return Form {
             kind: 3,
             rows,

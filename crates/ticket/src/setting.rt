@@ -35,8 +35,11 @@ impl PartNumber {
 
     pub const REMAINDERS: PartNumber = PartNumber(3);
 
+    // how many parts there are
+    pub(crate) const COUNT: u32 = 4;
+
     // past the last part
-    const END: PartNumber = PartNumber(4);
+    const END: PartNumber = PartNumber(PartNumber::COUNT);
 }
 
 impl Setting {

@@ -7,12 +7,13 @@
 --   PartReady G t w    so they do, and w is the number of a part
 --   part-holds, part-early   then the part can be read by its form, and does not start late
 --   partRead G t w, part-answer   the answer of part w, and that it is the code's
---   ReadTo G t w a     a is the answer of the parts before w
---   read-none, read-next, read-all   no part, one more, and all
+--   ReadTo G t w       the records before part w pass
+--   read-none, read-next, read-refused, read-all   no part yet, one that passes more, one that does not, and all parts
 use Prim.Native.Nat.{ℕ, zero, suc, _+_, _-_, _*_, _/_, _%_, _^_, _≤_, _<_}
-use native.Mathlib.Nat.{add-zero, mod-eq-of-lt}
+use native.Mathlib.Nat.{zero-add, add-zero, mod-eq-of-lt}
 use native.Mathlib.Decide.{decLe}
 use native.Mathlib.Omega.{arith}
+use mathlib.Core.Logic.{⊎-elim}
 use mathlib.Core.Path.{_≡_, refl, sym, ap, _∙_}
 use mathlib.Core.Bool.{Bool}
 use mathlib.Core.List.{List, [], _∷_}
@@ -27,10 +28,11 @@ use Rattle.residue.specs.Laws.Modulus.{modulus-positive, modulus-above}
 use Rattle.ticket.specs.declared.setting.Setting.{Setting}
 use Rattle.ticket.specs.declared.Answer.{Answer}
 use Rattle.ticket.specs.declared.records.Form.{Form}
-use Rattle.ticket.specs.Rules.{test, firstFailed, Part, parts, part, partSize, start, records, isEntry, isQuotient, shiftedQuotient, ticketLength, formed, valueAt, partTests, recordTests, recordNumber, refusal, firstRefusal, after}
+use Rattle.ticket.specs.Rules.{test, firstFailed, Part, parts, part, partSize, start, records, isEntry, isQuotient, shiftedQuotient, ticketLength, formed, valueAt, partTests, recordTests, recordNumber, refusal, firstRefusal}
 use Rattle.ticket.specs.Laws.Limits.{Numbers, Counts, half-small, half-double, clamped, clamped-same}
 use Rattle.ticket.specs.Laws.Layout.{no-parts, one-part, part-all, parts-are, start-none, start-next, ends-within, start-past, holder-at, partBytes, part-bytes-long, form-of-part, value-of-part}
-use Rattle.ticket.specs.Laws.Scans.{refusal-none, refusal-cong, refusal-split}
+use Rattle.ticket.specs.Laws.Scans.{refusal-none, refusal-is, zeros-or-first}
+use Rattle.ticket.specs.Laws.Answers.{scan-zero}
 use Rattle.ticket.specs.Laws.Forms.{formsOf, formOf, tested, testedAt, partAnswer, Holds, Ranged}
 
 pub entry-range : (p : ℕ) → 0 < p → (T v : ℕ) → T ≤ (p - 1) / 2 → v < p
@@ -109,15 +111,16 @@ pub record PartReady (G : Setting) (t : List ℕ) (w : ℕ) : Type 0 where
 unfoldable pub partRead : Setting → List ℕ → ℕ → Answer
 partRead G t w = partAnswer (formOf G w) (start G w) (partBytes G t w)
 
-abbrev pub ReadTo : Setting → List ℕ → ℕ → Answer → Type 0
-ReadTo G t w a = a ≡ firstRefusal 0 (start G w) (recordNumber G t)
+-- the records before part w pass
+abbrev pub ReadTo : Setting → List ℕ → ℕ → Type 0
+ReadTo G t w = (k : ℕ) → k < start G w → recordNumber G t k ≡ 0
 
 module _ (G : Setting) (t : List ℕ) where
-  pub read-none : ReadTo G t 0 (refusal 0 0)
-  read-none = sym (refusal-none 0 (start G 0) (recordNumber G t) (λ k l. absurd (omega (arith, start-none G))))
+  pub read-none : ReadTo G t 0
+  read-none k l = absurd (omega (arith, start-none G))
 
-  pub read-all : {a : Answer} → ReadTo G t 4 a → a ≡ firstRefusal 0 (records G) (recordNumber G t)
-  read-all e = e ∙ ap (λ n. firstRefusal 0 n (recordNumber G t)) (start-past G (omega arith))
+  pub read-all : {w : ℕ} → 4 ≤ w → ReadTo G t w → refusal 0 0 ≡ firstRefusal 0 (records G) (recordNumber G t)
+  read-all past passed = sym (refusal-none 0 (records G) (recordNumber G t) (λ k l. passed k (omega (arith, start-past G past))))
 
   module _ {w : ℕ} (ready : PartReady G t w) where
     makes : MakesTests (formOf G w) (part G w)
@@ -172,16 +175,39 @@ module _ (G : Setting) (t : List ℕ) where
         (number-range (formed t (start G w + i) (P .kind) (i / P .columns) (i % P .columns)) value
         (ltb ((value + formOf G w .shift) % modulus) (formOf G w .limit)) (P .range value) (P .outside) (makes .range value))
 
-    part-numbers : partRead G t w ≡ firstRefusal (start G w) (partSize (part G w)) (λ i. recordNumber G t (start G w + i))
-    unfolding partRead
-    part-numbers =
-        ap (λ n. firstRefusal (start G w) n (tested (partBytes G t w) (formOf G w))) (rw (makes .rows, makes .columns))
-        ∙ refusal-cong (start G w) (partSize (part G w)) _ _ tested-part
+    module _ {a : Answer} (before : ReadTo G t w) (is : a ≡ partRead G t w) where
+      size : formOf G w .rows * formOf G w .columns ≡ partSize (part G w)
+      size = rw (makes .rows, makes .columns)
 
-    pub read-next : {a b : Answer} → ReadTo G t w a → b ≡ after a (partRead G t w) → ReadTo G t (w + 1) b
-    read-next {a} {b} a-is b-is =
-        b-is ∙ rw (a-is, part-numbers)
-        (sym (ap (λ n. firstRefusal 0 n (recordNumber G t)) (start-next G w)
-        ∙ refusal-split 0 (start G w) (partSize (part G w)) (recordNumber G t)
-        ∙ ap (λ n. after (firstRefusal 0 (start G w) (recordNumber G t))
-        (firstRefusal n (partSize (part G w)) (λ i. recordNumber G t (start G w + i)))) (omega arith)))
+      -- the first i records of the part pass too
+      passed-records : {i : ℕ} → i ≤ partSize (part G w) → ((j : ℕ) → j < i → tested (partBytes G t w) (formOf G w) j ≡ 0)
+          → (k : ℕ) → k < start G w + i → recordNumber G t k ≡ 0
+      passed-records inside zeros k l =
+          elim (decLe (start G w) k) [
+            | no earlier ↦ before k (omega arith)
+            | yes from ↦
+                let same : k ≡ start G w + (k - start G w) = omega arith in
+                ap (recordNumber G t) same ∙ sym (tested-part (k - start G w) (omega arith)) ∙ zeros (k - start G w) (omega arith)
+          ]
+
+      pub read-next : a .number ≡ 0 → ReadTo G t (w + 1)
+      unfolding partRead
+      read-next z k l =
+          let zeros = scan-zero (start G w) _ (tested (partBytes G t w) (formOf G w)) .0 (sym (ap (λ x. x .number) is) ∙ z) in
+          passed-records {i = partSize (part G w)} (omega arith) (λ j m. zeros j (omega (arith, size))) k (omega (arith, start-next G w))
+
+      pub read-refused : (a .number ≡ 0 → ⊥) → a ≡ firstRefusal 0 (records G) (recordNumber G t)
+      unfolding partRead
+      read-refused d =
+          let f = tested (partBytes G t w) (formOf G w) in
+          let n = formOf G w .rows * formOf G w .columns in
+          ⊎-elim
+          (λ z. absurd (d (ap (λ x. x .number) (is ∙ refusal-none (start G w) n f z))))
+          (λ o. let i = o .0 in
+          let at = o .1 in
+          let inside : i < partSize (part G w) = omega (arith, size, at .within) in
+          let number = tested-part i inside in
+          is ∙ refusal-is (start G w) n i f (at .within) (at .before) (at .other) ∙ ap (λ c. refusal c (start G w + i)) number
+          ∙ sym (refusal-is 0 (records G) (start G w + i) (recordNumber G t) (omega (arith, ends-within G w))
+          (passed-records (omega arith) (at .before)) (λ z. at .other (number ∙ z)) ∙ ap (refusal _) (zero-add _)))
+          (zeros-or-first n f)

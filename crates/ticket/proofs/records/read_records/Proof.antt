@@ -1,25 +1,35 @@
-use Prim.Native.Nat.{ℕ, _<_}
+-- The loop keeps that the records of the parts before this one pass.
+use Prim.Native.Nat.{_-_, _≤_}
 use native.Mathlib.Omega.{arith}
-use borrow.Author.Needs.{needs}
-use Rattle.ticket.specs.Laws.Parts.{PartReady, read-none, read-next, read-all}
+use Rattle.ticket.specs.Laws.Parts.{PartReady, ReadTo, read-none, read-next, read-refused, read-all}
 use Rattle.ticket.proofs.records.read_records.Statement.{statement}
 use Rattle.ticket.proofs.records.read_records.Tie as tie
 
-ready : (c : tie.Start) (w : ℕ) → w < 4 → PartReady (c .args .setting) (c .args .ticket .now) w
-ready c w l = record { ready = c .pre; known = l }
+abbrev Inv-loop : tie.InvT-loop
+Inv-loop setting ticket which₀ which = (which ≤ 4) × ReadTo setting ticket which
 
-returns : tie.Need-returns
+abbrev μ-loop : tie.MeasureT-loop
+μ-loop setting ticket which₀ which = 4 - which
+
+ready : (c : tie.In-loop Inv-loop μ-loop) → let start = c .before .before .before in
+    PartReady (start .args .setting) (start .args .ticket .now) (c .before .loop .which)
+ready c = record { ready = c .before .before .before .pre; known = c .loop-test .taken }
+
+returns : tie.Need-returns Inv-loop μ-loop
 returns c =
-    let three = c .before in
-    let two = three .before in
-    let one = two .before in
-    let start = one .before .before in
-    read-all _ _ (read-next _ _ (ready start 3 (omega arith))
-    (read-next _ _ (ready start 2 (omega arith))
-    (read-next _ _ (ready start 1 (omega arith))
-    (read-next _ _ (ready start 0 (omega arith)) (read-none _ _) (one .read-part .ensures))
-    (two .read-part2 .ensures)) (three .read-part3 .ensures)) (c .read-part4 .ensures))
+    let read = c .before .before in
+    read-refused _ _ (ready (read .before)) (read .before .before .loop .inv .1) (read .read-part .ensures) (c .if1 .taken)
+
+loop-again : tie.Need-loop-again Inv-loop μ-loop
+loop-again c =
+    let read = c .before .before in
+    (omega arith, read-next _ _ (ready (read .before)) (read .before .before .loop .inv .1) (read .read-part .ensures) (c .if1 .left))
+
+returns-2 : tie.Need-returns-2 Inv-loop μ-loop
+returns-2 c = read-all _ _ (omega arith) (c .before .loop .inv .1)
 
 pub read-records-spec : {M : Type 1} → statement M
 read-records-spec =
-    tie.close (tie.spec (λ c κs. search needs) (λ c κs. search needs) (λ c κs. search needs) (λ c κs. search needs) returns)
+    tie.close
+    (tie.spec Inv-loop μ-loop (λ c. (omega arith, read-none _ _)) (λ c κs. ready c) returns (λ c. omega arith) (λ c. omega arith)
+    loop-again returns-2)
