@@ -10,6 +10,9 @@ use Rattle.ticket.proofs.records.form_of.Tie as tie
 abbrev start : tie.After-half → tie.Start
 start c = c .before .before .before .before .before .before .before .before
 
+half : (c : tie.After-half) → c .half .result .0 ≡ halfRange (start c .args .setting)
+half c = c .half .ensures ∙ ap halfRange (clamped-same (start c .pre .0) (start c .pre .1))
+
 returns : tie.Need-returns
 unfolding formsOf formOf
 returns c = rw (c .if1 .taken)
@@ -17,9 +20,6 @@ returns c = rw (c .if1 .taken)
 returns-2 : tie.Need-returns-2
 unfolding formsOf formOf
 returns-2 c = rw (c .if2 .taken)
-
-half : (c : tie.After-half) → c .half .result .0 ≡ halfRange (start c .args .setting)
-half c = c .half .ensures ∙ ap halfRange (clamped-same (start c .pre .0) (start c .pre .1))
 
 mul-limit : tie.Need-mul-t12
 mul-limit c = omega (arith, half c, half-small (start c .pre .1))

@@ -13,7 +13,7 @@ abbrev μ-loop : tie.MeasureT-loop
 
 ready : (c : tie.In-loop Inv-loop μ-loop) → let start = c .before .before .before in
     PartReady (start .args .setting) (start .args .ticket .now) (c .before .loop .which)
-ready c = record { ready = c .before .before .before .pre; known = c .loop-test .taken }
+ready c = record { ready = c .before .before .before .pre; known = omega arith }
 
 returns : tie.Need-returns Inv-loop μ-loop
 returns c =
