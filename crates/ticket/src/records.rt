@@ -2,10 +2,10 @@
 ghost use mathlib.Core.Path.{_≡_};
 ghost use Prim.Native.Nat.{_+_, _*_, _^_, _≤_, _<_};
 ghost use lib.ListN.{length};
-ghost use Rattle.ticket.specs.Rules.{reading, recordBytes, records, recordNumber, firstRefusal, formed};
+ghost use Rattle.ticket.specs.Rules.{mostBound, reading, recordBytes, records, recordNumber, firstRefusal, formed};
 ghost use Rattle.ticket.specs.Laws.Limits.{Sizes, Numbers};
 ghost use Rattle.ticket.specs.Laws.All.{all};
-ghost use Rattle.ticket.specs.Laws.Forms.{formOf, partAnswer, testedAt, Holds, Ranged};
+ghost use Rattle.ticket.specs.Laws.Forms.{entriesForm, formOf, partAnswer, testedAt, Holds, Ranged};
 ghost use Rattle.ticket.specs.Laws.Passing.{passing, passingAt, rowPassing};
 ghost use Rattle.ticket.specs.Laws.Parts.{PartReady, ReadReady, partRead};
 use crate::Answer;
@@ -93,26 +93,11 @@ fn form_of(setting: Setting, which: PartNumber) -> Form
     let rows = setting.rows as u8;
     let inner = setting.inner as u8;
     let columns = setting.columns as u8;
-    let entries = 2 * setting.bound + 1;
     if part == 0 {
-        return Form {
-            kind: 1,
-            rows,
-            columns: inner,
-            shift: setting.bound,
-            limit: entries,
-            outside: 7,
-        };
+        return entries_form(1, rows, inner, setting.bound);
     }
     if part == 1 {
-        return Form {
-            kind: 2,
-            rows: inner,
-            columns,
-            shift: setting.bound,
-            limit: entries,
-            outside: 7,
-        };
+        return entries_form(2, inner, columns, setting.bound);
     }
     if part == 2 {
         let half = setting.half().0;
@@ -132,6 +117,21 @@ fn form_of(setting: Setting, which: PartNumber) -> Form
         shift: 0,
         limit: setting.scale,
         outside: 9,
+    }
+}
+
+// What the records of a matrix of entries have to be: its values stand for numbers from -bound to bound.
+fn entries_form(kind: u8, rows: u8, columns: u8, bound: u32) -> Form
+    requires { ⌜ bound ≤ mostBound ⌝ }
+    ensures { λ r. ⌜ r ≡ entriesForm kind rows columns bound ⌝ }
+{
+    Form {
+        kind,
+        rows,
+        columns,
+        shift: bound,
+        limit: 2 * bound + 1,
+        outside: 7,
     }
 }
 

@@ -1,5 +1,6 @@
 -- The form that the code gives the tests of a part, and that they are the rule's.
 --
+--   entriesForm κ m n T  the form of m by n entries from -T to T, of kind κ
 --   formsOf G, lastForm G, formOf G w   the forms of the parts before the last, that of the last, and that of part w
 --   form-last            from the last part on, it is the last
 --   testedAt b F i r c   the number of record i of b by the form F, which stands in row r, column c
@@ -39,10 +40,14 @@ use Rattle.ticket.specs.declared.Answer.{Answer}
 use Rattle.ticket.specs.declared.setting.Setting.{Setting}
 use Rattle.ticket.specs.declared.records.Form.{Form}
 
+abbrev pub entriesForm : ℕ → ℕ → ℕ → ℕ → Form
+entriesForm kind rows columns bound =
+    record { kind = kind; rows = rows; columns = columns; shift = bound; limit = 2 * bound + 1; outside = 7 }
+
 unfoldable pub formsOf : Setting → List Form
 formsOf G =
-    record { kind = 1; rows = G .rows; columns = G .inner; shift = G .bound; limit = 2 * G .bound + 1; outside = 7 }
-    ∷ record { kind = 2; rows = G .inner; columns = G .columns; shift = G .bound; limit = 2 * G .bound + 1; outside = 7 }
+    entriesForm 1 (G .rows) (G .inner) (G .bound)
+    ∷ entriesForm 2 (G .inner) (G .columns) (G .bound)
     ∷ record { kind = 3; rows = G .rows; columns = G .columns; shift = halfRange G; limit = 2 * halfRange G; outside = 8 }
     ∷ []
 

@@ -8,21 +8,18 @@ use Rattle.ticket.proofs.records.form_of.Statement.{statement}
 use Rattle.ticket.proofs.records.form_of.Tie as tie
 
 abbrev start : tie.After-half → tie.Start
-start c = c .before .before .before .before .before .before .before .before
+start c = c .before .before .before .before .before .before .before
 
 half : (c : tie.After-half) → c .half .result .0 ≡ halfRange (start c .args .setting)
 half c = c .half .ensures ∙ ap halfRange (clamped-same (start c .pre .0) (start c .pre .1))
 
 returns : tie.Need-returns
 unfolding formsOf formOf
-returns c = rw (c .if1 .taken)
+returns c = rw (c .before .if1 .taken) (c .entries-form .ensures)
 
 returns-2 : tie.Need-returns-2
 unfolding formsOf formOf
-returns-2 c = rw (c .if2 .taken)
-
-mul-limit : tie.Need-mul-t12
-mul-limit c = omega (arith, half c, half-small (start c .pre .1))
+returns-2 c = rw (c .before .if2 .taken) (c .entries-form2 .ensures)
 
 returns-3 : tie.Need-returns-3
 unfolding formsOf formOf
@@ -34,5 +31,5 @@ returns-4 c = sym (form-last _ (omega arith))
 pub form-of-spec : {M : Type 1} → statement M
 form-of-spec =
     tie.close
-    (tie.spec (λ c. search needs) (λ c. search needs) (λ c. search needs) (λ c. search needs) (λ c. search needs) returns returns-2
-    (λ c κs. search needs) mul-limit returns-3 returns-4)
+    (tie.spec (λ c. search needs) (λ c. search needs) (λ c. search needs) (λ c κs. search needs) returns (λ c κs. search needs)
+    returns-2 (λ c κs. search needs) (λ c. omega (arith, half c, half-small (start c .pre .1))) returns-3 returns-4)
