@@ -30,7 +30,7 @@ use lib.Arith.{digits-div, digits-mod, digits-lt}
 use mathlib.Core.Path.{_≡_, refl, sym, ap, _∙_}
 use mathlib.Core.List.{List, [], _∷_}
 use borrow.Author.Tests.{lt-ltb, le-ltb}
-use lib.Dec.{ltb}
+use lib.Dec.{ltb, lit<}
 use lib.ListN.{length, getD, take, drop, length-drop, drop-of-length-le, List·getD-eq-default}
 use lib.Seq.{take-all, take-nil, take-length, drop-length, getD-drop, getD-take, length-take-le}
 use Rattle.residue.specs.Rules.{modulus}
@@ -197,7 +197,7 @@ partBytes G t w = take (recordBytes * partSize (part G w)) (drop (recordBytes * 
 cut-within : (t : List ℕ) (a n : ℕ) → let L = length t in take (min (a + n) L - min a L) (drop (min a L) t) ≡ take n (drop a t)
 cut-within t a n =
     elim (decLe (length t) a) [
-      | yes past ↦ rw (min-eq-right past, drop-length t, drop-of-length-le t past, take-nil) (sym (take-nil n))
+      | yes past ↦ rw (min-eq-right past, drop-length t, drop-of-length-le t past) (take-nil (min (a + n) (length t) - length t) ∙ sym (take-nil n))
       | no inside ↦
           let from : min a (length t) ≡ a = min-eq-left (omega arith) in
           rw from
@@ -222,33 +222,21 @@ module _ (G : Setting) (t : List ℕ) (w : ℕ) where
       length-take-le (recordBytes * partSize (part G w)) (drop (recordBytes * start G w) t)
       (omega (arith, ends-within G w, length-drop (recordBytes * start G w) t))
 
-  byte-of-part : {i byte : ℕ} → i < partSize (part G w) → byte < recordBytes
-      → byteAt (partBytes G t w) i byte ≡ byteAt t (start G w + i) byte
-  unfolding partBytes
-  byte-of-part {i} {byte} m l =
-      getD-take (recordBytes * partSize (part G w)) (drop (recordBytes * start G w) t) (recordBytes * i + byte) 0 (omega arith)
-      ∙ getD-drop (recordBytes * start G w) t (recordBytes * i + byte) 0 ∙ ap (λ n. getD t n 0) (omega arith)
-
   module _ {i : ℕ} (m : i < partSize (part G w)) where
+    byte-of-part : (byte : ℕ) → byte < recordBytes → byteAt (partBytes G t w) i byte ≡ byteAt t (start G w + i) byte
+    unfolding partBytes
+    byte-of-part byte l =
+        getD-take (recordBytes * partSize (part G w)) (drop (recordBytes * start G w) t) (recordBytes * i + byte) 0 (omega arith)
+        ∙ getD-drop (recordBytes * start G w) t (recordBytes * i + byte) 0 ∙ ap (λ n. getD t n 0) (omega arith)
+
     pub form-of-part : (kind row column : ℕ) → formed (partBytes G t w) i kind row column ≡ formed t (start G w + i) kind row column
     unfolding formed
     form-of-part kind row column =
-        rw (
-          byte-of-part {byte = 0} m (omega arith),
-          byte-of-part {byte = 1} m (omega arith),
-          byte-of-part {byte = 2} m (omega arith),
-          byte-of-part {byte = 3} m (omega arith),
-        )
+        rw (byte-of-part 0 (lit< tt), byte-of-part 1 (lit< tt), byte-of-part 2 (lit< tt), byte-of-part 3 (lit< tt))
 
     pub value-of-part : valueAt (partBytes G t w) i ≡ valueAt t (start G w + i)
     unfolding valueAt
-    value-of-part =
-        rw (
-          byte-of-part {byte = 4} m (omega arith),
-          byte-of-part {byte = 5} m (omega arith),
-          byte-of-part {byte = 6} m (omega arith),
-          byte-of-part {byte = 7} m (omega arith),
-        )
+    value-of-part = rw (byte-of-part 4 (lit< tt), byte-of-part 5 (lit< tt), byte-of-part 6 (lit< tt), byte-of-part 7 (lit< tt))
 
 -- records by part, row and column
 
