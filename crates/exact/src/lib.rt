@@ -5,7 +5,7 @@ ghost use Prim.Native.Nat.{_+_, _≤_, _^_, min};
 ghost use lib.ListN.{length};
 ghost use Rattle.residue.specs.Rules.{leastResidue};
 ghost use Rattle.exact.specs.Rules.{dotProduct};
-ghost use Rattle.exact.specs.Laws.Products.{sumWith};
+ghost use Rattle.exact.specs.Laws.Products.{Summed};
 
 // 2^32
 const WORD: u64 = 4_294_967_296;
@@ -37,7 +37,7 @@ pub fn dot(x: &[i16], y: &[i16]) -> u32
 // A sum with a block of products added, from number start of both lists on, modulo 2^32.
 fn block(x: &[i16], y: &[i16], start: usize, before: u32) -> u32
     requires { ⌜ (start + 64 ≤ length (now x)) × (start + 64 ≤ length (now y)) ⌝ }
-    ensures { λ r. ⌜ r ≡ sumWith before start 64 (now (x .entry)) (now (y .entry)) ⌝ }
+    ensures { λ r. ⌜ Summed (now (x .entry)) (now (y .entry)) before start 64 r ⌝ }
 {
     let mut sum = before;
     let mut k = 0;
@@ -51,7 +51,7 @@ fn block(x: &[i16], y: &[i16], start: usize, before: u32) -> u32
 // The same with count products, half a row at a time.
 fn rest(x: &[i16], y: &[i16], start: usize, count: usize, before: u32) -> u32
     requires { ⌜ (start + count ≤ length (now x)) × (start + count ≤ length (now y)) ⌝ }
-    ensures { λ r. ⌜ r ≡ sumWith before start count (now (x .entry)) (now (y .entry)) ⌝ }
+    ensures { λ r. ⌜ Summed (now (x .entry)) (now (y .entry)) before start count r ⌝ }
 {
     let mut sum = before;
     let mut k = 0;
@@ -65,7 +65,7 @@ fn rest(x: &[i16], y: &[i16], start: usize, count: usize, before: u32) -> u32
 // The same, a quarter of a row at once, where there are as many.
 fn last(x: &[i16], y: &[i16], start: usize, count: usize, before: u32) -> u32
     requires { ⌜ (start + count ≤ length (now x)) × (start + count ≤ length (now y)) ⌝ }
-    ensures { λ r. ⌜ r ≡ sumWith before start count (now (x .entry)) (now (y .entry)) ⌝ }
+    ensures { λ r. ⌜ Summed (now (x .entry)) (now (y .entry)) before start count r ⌝ }
 {
     if count < QUARTER {
         return products(x, y, start, count, before);
@@ -77,7 +77,7 @@ fn last(x: &[i16], y: &[i16], start: usize, count: usize, before: u32) -> u32
 // The same, one by one.
 fn products(x: &[i16], y: &[i16], start: usize, count: usize, before: u32) -> u32
     requires { ⌜ (start + count ≤ length (now x)) × (start + count ≤ length (now y)) ⌝ }
-    ensures { λ r. ⌜ r ≡ sumWith before start count (now (x .entry)) (now (y .entry)) ⌝ }
+    ensures { λ r. ⌜ Summed (now (x .entry)) (now (y .entry)) before start count r ⌝ }
 {
     let mut sum = before;
     let mut k = 0;

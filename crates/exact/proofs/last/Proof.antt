@@ -1,7 +1,6 @@
-use Prim.Native.Nat.{_+_, _-_}
 use native.Mathlib.Omega.{arith}
-use mathlib.Core.Path.{_≡_, ap, _∙_}
-use Rattle.exact.specs.Laws.Products.{sumWith, sum-joined}
+use mathlib.Core.Path.{refl}
+use Rattle.exact.specs.Laws.Products.{summed-joined}
 use borrow.Author.Needs.{needs}
 use Rattle.exact.proofs.last.Statement.{statement}
 use Rattle.exact.proofs.last.Tie as tie
@@ -22,18 +21,7 @@ products-requires-3 : tie.Need-products-requires-3
 products-requires-3 c κs = search needs
 
 returns-2 : tie.Need-returns-2
-returns-2 c =
-    let all : 8 + (c .before .before .before .args .count - 8) ≡ c .before .before .before .args .count = omega (arith, c .before .before .if1 .left) in
-    sum-joined (c .before .before .before .args .x .now) (c .before .before .before .args .y .now) (c .before .before .before .args .before) (c .before .before .before .args .start) 8 (c .before .before .before .args .count - 8) (c .before .products2 .ensures) (c .products3 .ensures)
-    ∙ ap (λ n. sumWith (c .before .before .before .args .before) (c .before .before .before .args .start) n (c .before .before .before .args .x .now) (c .before .before .before .args .y .now)) all
+returns-2 c = summed-joined (c .before .products2 .ensures) (c .products3 .ensures) refl (omega (arith, c .before .before .if1 .left))
 
 pub last-spec : {M : Type 1} → statement M
-last-spec =
-    tie.close
-    (tie.spec
-    products-requires
-    returns
-    products-requires-2
-    add-products
-    products-requires-3
-    returns-2)
+last-spec = tie.close (tie.spec products-requires returns products-requires-2 add-products products-requires-3 returns-2)

@@ -1,6 +1,7 @@
 -- Signed machine numbers. A cast or a sum reads a number from its bits and writes it back, which leaves a number that fits as it is.
 --
 --   widened          a number fits a wider width, after it was written to its bits and read back
+--   widened-is       read back from the wider bits, it is itself
 --   wideSum z k      the 32-bit number z, as it is read after the cast to 64 bits, and k added to it
 --   lifted z k       that sum, as it is read from its bits
 --   lifted-fits      the sum fits, where k is from 2^31 to 2^62
@@ -37,11 +38,15 @@ parts-mag (negsuc n) = omega arith
 pub widened : {narrow wide : Width} {z : ℤ} → T (leb (hbits narrow) (hbits wide)) → SFits narrow z → SFits wide (toZ narrow (ofZ narrow z))
 widened {wide = wide} wider fits = subst⁻¹ (SFits wide) (toZ-ofZ fits) (sfits-widen wider fits)
 
+pub widened-is : {narrow : Width} {z : ℤ} (wide : Width) → T (leb (hbits narrow) (hbits wide)) → SFits narrow z
+    → toZ wide (ofZ wide (toZ narrow (ofZ narrow z))) ≡ z
+widened-is wide wider fits = toZ-ofZ (widened {wide = wide} wider fits) ∙ toZ-ofZ fits
+
 module _ (z : ℤ) (fits : SFits w32 z) where
   module _ (k : ℕ) (low : 2 ^ 31 ≤ k) (high : k ≤ 2 ^ 62) where
     sum-is : wideSum z k ≡ pos (positive z + k - negative z)
     sum-is =
-        ap (λ y. y +ℤ pos k) (toZ-ofZ (widened {wide = w64} tt fits) ∙ toZ-ofZ fits)
+        ap (λ y. y +ℤ pos k) (widened-is w64 tt fits)
         ∙ equal-of-parts (z +ℤ pos k) (pos (positive z + k - negative z))
         (omega (arith, parts-sum z (pos k), parts-mag z, fits .sfits))
 
