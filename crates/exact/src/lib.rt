@@ -7,6 +7,11 @@ ghost use Rattle.residue.specs.Rules.{leastResidue};
 ghost use Rattle.exact.specs.Rules.{dotProduct};
 ghost use Rattle.exact.specs.Laws.Products.{Summed};
 
+mod matrices;
+
+pub use matrices::row_sums;
+pub use matrices::turn;
+
 // 2^32
 const WORD: u64 = 4_294_967_296;
 

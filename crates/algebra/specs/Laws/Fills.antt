@@ -7,6 +7,7 @@
 --   filled-same          two lists filled alike are equal
 --   part-of, part-long   the elements of a part of a list, and how many they are
 --   lineAt x n i         line i of lines of n elements each
+--   line-from            it, from where it starts
 --   digits-same          two numbers by row and column are equal only where these are
 use Prim.Native.Nat.{ℕ, _+_, _-_, _*_, _/_, _%_, _≤_, _<_}
 use native.Mathlib.Decide.{ℕ-discrete, decLt}
@@ -60,6 +61,9 @@ part-long x start n l = length-take-le (start + n - start) (drop start x) (omega
 
 abbrev pub lineAt : {A : Type 0} → List A → ℕ → ℕ → List A
 lineAt x n i = take (i * n + n - i * n) (drop (i * n) x)
+
+pub line-from : {A : Type 0} (x : List A) (n i : ℕ) {start : ℕ} → start ≡ i * n → take (start + n - start) (drop start x) ≡ lineAt x n i
+line-from x n i e = ap (λ s. take (s + n - s) (drop s x)) e
 
 pub digits-same : {a b c d : ℕ} (n : ℕ) → b < n → d < n → a * n + b ≡ c * n + d → (a ≡ c) × (b ≡ d)
 digits-same {a} {b} {c} {d} n l m e = (
