@@ -1,7 +1,9 @@
 // A matrix turned, so that its columns stand one after the other, and the products of a row with columns that do.
-ghost use Prim.Native.Nat.{_*_, _≤_, _<_};
+ghost use Prim.Native.Nat.{_+_, _*_, _≤_, _<_};
+ghost use lib.IntN.{pos};
 ghost use lib.ListN.{length};
-ghost use Rattle.exact.specs.Laws.Matrices.{Turned, ColumnTurned, RowSums};
+ghost use Rattle.algebra.specs.Laws.Fills.{Further};
+ghost use Rattle.exact.specs.Laws.Matrices.{turnedNumber, Turned, RowSums};
 use crate::dot;
 
 // The matrix, which is row by row, goes to the list column by column. Where the matrix or the list is too short, nothing is written.
@@ -27,7 +29,8 @@ pub fn turn(matrix: &[i16], height: u16, width: u16, list: &mut [i16])
 // One column of the matrix: a number of each row.
 fn turn_column(matrix: &[i16], height: usize, width: usize, column: usize, list: &mut [i16])
     requires { ⌜ (column < width) × (height * width ≤ length (now matrix)) × (height * width ≤ length (now list)) ⌝ }
-    ensures { λ r. ⌜ ColumnTurned (now (matrix .entry)) height width column height (now (list .entry)) (now (list .exit)) ⌝ }
+    ensures { λ r. ⌜ Further (pos 0) (now (list .entry)) (column * height) (column * height + height)
+        (turnedNumber (now (matrix .entry)) height width) (now (list .exit)) ⌝ }
 {
     let start = column * height;
     let mut at = column;

@@ -2,15 +2,14 @@
 --
 --   turnedNumber M h w i   number i of the matrix M of h rows and w columns, column by column
 --   Turned M h w b l       l is the list b with the matrix, turned, at its beginning; or b where one of the two is too short
---   ColumnTurned M h w j n b l   l is the list b with n numbers of column j at their place: the next ones, where b has the columns before
+--   number-at              row k, column j of the matrix is number j * h + k of the turned one
 --   turned-at              row k, column j of the matrix, where it stands in the turned list
---   column-none, column-more   no number of the column is there yet, and one more
 --   RowSums r C b s        s is the list b with the products of the row r with the columns in C at its beginning
 --   row-sums-ended         it is so after the last sum, or before the first column that C has not whole
 --   sums-exact             the product of a row and a column, as lines of two lists, is an entry of the product of matrices, modulo 2^32
 --   row-sums-exact         and so is a sum of the row with columns
 use Prim.Native.Nat.{ℕ, _+_, _-_, _*_, _/_, _%_, _^_, _≤_, _<_}
-use native.Mathlib.Nat.{add-zero, mul-le-mul-right}
+use native.Mathlib.Nat.{mul-le-mul-right}
 use native.Mathlib.Decide.{decLt}
 use native.Mathlib.Omega.{arith}
 use mathlib.Core.Path.{_≡_, refl, sym, ap, _∙_}
@@ -18,10 +17,10 @@ use mathlib.Core.Logic.{_⊎_, ⊎-elim}
 use mathlib.Core.List.{List}
 use lib.Arith.{digits-div, digits-mod, digits-lt}
 use lib.IntN.{ℤ, pos}
-use lib.ListN.{length, getD, set, length-set}
+use lib.ListN.{length, getD}
 use Rattle.residue.specs.Rules.{leastResidue}
 use Rattle.algebra.specs.Rules.{matrixProduct}
-use Rattle.algebra.specs.Laws.Fills.{Filled, filled-more, lineAt, part-of, part-long}
+use Rattle.algebra.specs.Laws.Fills.{Filled, lineAt, part-of, part-long}
 use Rattle.algebra.specs.Laws.Positions.{row-inside}
 use Rattle.algebra.specs.Laws.MatrixProducts.{matrixProduct-is}
 use Rattle.exact.specs.Rules.{dotProduct}
@@ -35,42 +34,21 @@ pub record Turned (matrix : List ℤ) (height width : ℕ) (before list : List �
       → Filled (pos 0) before (height * width) (turnedNumber matrix height width) list
   pub kept : (length matrix < height * width) ⊎ (length before < height * width) → list ≡ before
 
-pub record ColumnTurned (matrix : List ℤ) (height width column count : ℕ) (before list : List ℤ) : Type 0 where
-  pub long : length list ≡ length before
-  pub more : (first : List ℤ) → Filled (pos 0) first (column * height) (turnedNumber matrix height width) before
-      → Filled (pos 0) first (column * height + count) (turnedNumber matrix height width) list
-
 pub record RowSums (row columns : List ℤ) (before sums : List ℕ) : Type 0 where
   pub long : length sums ≡ length before
   pub each : (j : ℕ) → j < length before → j * length row + length row ≤ length columns
       → getD sums j 0 ≡ dotProduct row (lineAt columns (length row) j)
   pub rest : (j : ℕ) → length columns < j * length row + length row → getD sums j 0 ≡ getD before j 0
 
--- row k, column j of the matrix, by its number in the turned list
-number-at : (matrix : List ℤ) {height k : ℕ} (width j : ℕ) → k < height
-    → turnedNumber matrix height width (j * height + k) ≡ getD matrix (k * width + j) (pos 0)
-number-at matrix width j l = rw (digits-mod j l, digits-div j l)
+pub number-at : (matrix : List ℤ) {height k at : ℕ} (width j : ℕ) → k < height → at ≡ k * width + j
+    → getD matrix at (pos 0) ≡ turnedNumber matrix height width (j * height + k)
+number-at matrix width j l e = rw (e, digits-mod j l, digits-div j l)
 
 pub turned-at : {matrix : List ℤ} {height width : ℕ} {before list : List ℤ} → Turned matrix height width before list
     → height * width ≤ length matrix → height * width ≤ length before → (k j : ℕ) → k < height → j < width
     → getD list (j * height + k) (pos 0) ≡ getD matrix (k * width + j) (pos 0)
 turned-at {matrix} {height} {width} turned room-matrix room-list k j l m =
-    turned .turned room-matrix room-list .each (j * height + k) (omega (arith, digits-lt m l)) ∙ number-at matrix width j l
-
-module _ {matrix : List ℤ} {height width column : ℕ} {before : List ℤ} where
-  pub column-none : ColumnTurned matrix height width column 0 before before
-  column-none = record { long = refl; more = λ first filled. rw add-zero filled }
-
-  pub column-more : {k : ℕ} {value : ℤ} {list : List ℤ} → k < height → column * height + k < length before
-      → ColumnTurned matrix height width column k before list → value ≡ getD matrix (k * width + column) (pos 0)
-      → ColumnTurned matrix height width column (k + 1) before (set list (column * height + k) value)
-  column-more {k} {value} {list} l inside turned is =
-      record {
-        long = length-set list (column * height + k) value ∙ turned .long;
-        more = λ first filled.
-            let next : column * height + (k + 1) ≡ column * height + k + 1 = omega arith in
-            rw next (filled-more (omega (arith, filled .long)) (turned .more first filled) (is ∙ sym (number-at matrix width column l)));
-      }
+    turned .turned room-matrix room-list .each (j * height + k) (omega (arith, digits-lt m l)) ∙ sym (number-at matrix width j l refl)
 
 pub row-sums-ended : {row columns : List ℤ} {before sums : List ℕ} {j : ℕ}
     → Filled 0 before j (λ i. dotProduct row (lineAt columns (length row) i)) sums → j * length row ≤ length columns

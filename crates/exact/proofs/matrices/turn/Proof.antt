@@ -49,7 +49,7 @@ loop-again : tie.Need-loop-again Inv-loop μ-loop
 loop-again c =
     let at = c .before .before .before .before in
     let next : (at .loop .column + 1) * height at ≡ at .loop .column * height at + height at = omega arith in
-    (omega arith, rw next (c .before .turn-column .ensures .more _ (at .loop .inv .1)))
+    (omega arith, rw next (c .before .turn-column .ensures .filled (at .loop .inv .1)))
 
 same-length : tie.Need-same-length Inv-loop μ-loop
 same-length c = c .before .loop .inv .1 .long

@@ -1,19 +1,20 @@
 -- The loop keeps the first k numbers of the column at their places, and in `at` where the next one stands in the matrix.
 use Prim.Native.Nat.{_+_, _-_, _*_, _≤_}
 use native.Mathlib.Omega.{arith}
-use mathlib.Core.Path.{_≡_, ap, _∙_}
+use mathlib.Core.Path.{_≡_, _∙_}
 use lib.IntN.{pos}
-use lib.ListN.{getD}
 use mir.Syntax.{w16}
 use mir.Facts.{toZ-ofZ}
 use Rattle.algebra.specs.Laws.Positions.{row-inside}
-use Rattle.exact.specs.Laws.Matrices.{ColumnTurned, column-none, column-more}
+use Rattle.algebra.specs.Laws.Fills.{Further, further-none, further-more}
+use Rattle.exact.specs.Laws.Matrices.{turnedNumber, number-at}
 use Rattle.exact.proofs.matrices.turn_column.Statement.{statement}
 use Rattle.exact.proofs.matrices.turn_column.Tie as tie
 
 abbrev Inv-loop : tie.InvT-loop
 Inv-loop matrix height width column list₀ start at₀ k₀ list at k =
-    (k ≤ height) × (at ≡ k * width + column) × ColumnTurned matrix height width column k list₀ list
+    (k ≤ height) × (at ≡ k * width + column)
+    × Further (pos 0) list₀ (column * height) (column * height + k) (turnedNumber matrix height width) list
 
 abbrev μ-loop : tie.MeasureT-loop
 μ-loop matrix height width column list₀ start at₀ k₀ list at k = height - k
@@ -29,7 +30,7 @@ mul-start : tie.Need-mul-start Inv-loop μ-loop
 mul-start c = omega (arith, row-inside (c .args .height) (c .pre .0))
 
 loop-holds : tie.Need-loop-holds Inv-loop μ-loop
-loop-holds c = (omega arith, omega arith, column-none)
+loop-holds c = (omega arith, omega arith, further-none (omega arith))
 
 mul-list : tie.Need-mul-list Inv-loop μ-loop
 mul-list c = omega (arith, ends c)
@@ -57,12 +58,14 @@ loop-less c = omega arith
 
 loop-again : tie.Need-loop-again Inv-loop μ-loop
 loop-again c =
-    let turn = c .before .before in (
+    let turn = c .before .before in
+    let a = turn .before .args in (
       omega arith,
       omega arith,
-      column-more (c .before .loop-test .taken) (omega (arith, ends (c .before))) (turn .loop .inv .2)
+      further-more (omega (arith, ends (c .before))) (turn .loop .inv .2)
           (toZ-ofZ {w = w16} (record { sfits = c .list .given })
-          ∙ ap (λ n. getD (turn .before .args .matrix .now) n (pos 0)) (turn .loop .inv .1)),
+          ∙ number-at (a .matrix .now) (a .width) (a .column) (c .before .loop-test .taken) (turn .loop .inv .1))
+          (omega arith),
     )
 
 same-length : tie.Need-same-length Inv-loop μ-loop
