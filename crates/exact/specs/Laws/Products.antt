@@ -56,23 +56,23 @@ term x y k = getD x k (pos 0) *ℤ getD y k (pos 0)
 pub record Summed (x y : List ℤ) (before start n sum : ℕ) : Type 0 where
   pub is : sum ≡ leastResidue (2 ^ 32) (pos before +ℤ sumℤ n (λ k. term x y (start + k)))
 
-word : 0 < 2 ^ 32
-word = omega arith
+above : 0 < 2 ^ 32
+above = omega arith
 
 -- the least residue of a sum that has one already for its first part
 residue-with : (s : ℕ) (w z : ℤ) → s ≡ leastResidue (2 ^ 32) w → leastResidue (2 ^ 32) (pos s +ℤ z) ≡ leastResidue (2 ^ 32) (w +ℤ z)
 residue-with s w z e =
-    let below : s < 2 ^ 32 = rw e (residue-below (2 ^ 32) word w) in
-    residue-sum (2 ^ 32) word (pos s) z
-    ∙ ap (λ n. (n + leastResidue (2 ^ 32) z) % 2 ^ 32) (residue-of-residue (2 ^ 32) word s below ∙ e)
-    ∙ sym (residue-sum (2 ^ 32) word w z)
+    let below : s < 2 ^ 32 = rw e (residue-below (2 ^ 32) above w) in
+    residue-sum (2 ^ 32) above (pos s) z
+    ∙ ap (λ n. (n + leastResidue (2 ^ 32) z) % 2 ^ 32) (residue-of-residue (2 ^ 32) above s below ∙ e)
+    ∙ sym (residue-sum (2 ^ 32) above w z)
 
 module _ {x y : List ℤ} {before start : ℕ} where
   pub summed-none : before < 2 ^ 32 → Summed x y before start 0 before
   summed-none below =
       record {
         is = sym (ap (λ z. leastResidue (2 ^ 32) (pos before +ℤ z)) (sumℤ-none _) ∙ ap (leastResidue (2 ^ 32)) (+ℤ-idr (pos before))
-            ∙ residue-of-residue (2 ^ 32) word before below);
+            ∙ residue-of-residue (2 ^ 32) above before below);
       }
 
   pub summed-more : {k s b s' : ℕ} → Summed x y before start k s
@@ -85,7 +85,7 @@ module _ {x y : List ℤ} {before start : ℕ} where
             (sym (
             ap (λ z. leastResidue (2 ^ 32) (pos before +ℤ z)) (sumℤ-more k _)
             ∙ ap (leastResidue (2 ^ 32)) (sym (+ℤ-assoc (pos before) sum (term x y (start + k))))
-            ∙ residue-sum (2 ^ 32) word (pos before +ℤ sum) (term x y (start + k))
+            ∙ residue-sum (2 ^ 32) above (pos before +ℤ sum) (term x y (start + k))
             ));
       }
 
