@@ -3,14 +3,12 @@
 --   Lists      the tests of a challenge list
 --   Shifts     sums of products in which one factor is shifted
 --   Products   products with a vector
---   Rows       one row of the check
---   Values     the values of a ticket that passes, decoded
---   Vectors    all rows of one vector, and all vectors
+--   Rows       all rows of one vector
+--   Vectors    all vectors, and the rules
 --   Checks     the whole check (C1)
 pub mod Lists
 pub mod Shifts
 pub mod Products
 pub mod Rows
-pub mod Values
 pub mod Vectors
 pub mod Checks

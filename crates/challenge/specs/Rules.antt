@@ -9,11 +9,12 @@
 --   claimSide G t x τ i    row i of the claims times vector τ, modulo p
 --   operandSide G t x τ i  row i of A times u, modulo p
 --   balanced G t x τ i     the two sides are equal
---   firstRow G t x τ       the first row that is not balanced for vector τ
---   firstVector G t x      the first vector that has such a row
+--   firstRow G t x τ       the first row that is not balanced for vector τ, the number of rows where there is none
 --   vectorProducts G       how many products a whole vector takes
+--   challengeProducts G    and how many all of them take
+--   caughtProducts G τ i   how many are made up to row i of vector τ, with that row
 --   accepted G, caught G τ i   the answers
---   verdict G t x          the answer of test 12
+--   verdict G t x          the answer of test 12: caught at the first vector that has a row that is not balanced
 --   challengeCheck G t x   the answer of the challenge check
 --   Accepted G t x         its number is 0
 --   DifferIn G j x y       the lists x and y differ in one column only, j
@@ -28,7 +29,7 @@ use Rattle.residue.specs.Rules.{modulus, leastResidue}
 use Rattle.algebra.specs.Rules.{sumℤ}
 use Rattle.ticket.specs.declared.setting.Setting.{Setting}
 use Rattle.ticket.specs.declared.Answer.{Answer}
-use Rattle.ticket.specs.Rules.{first, unless, refusal, firstRefusal, after, reading, entryA, entryB, claim}
+use Rattle.ticket.specs.Rules.{first, unless, answer, refusal, scan, firstRefusal, after, reading, entryA, entryB, claim}
 
 -- the list
 
@@ -64,28 +65,24 @@ balanced G t x τ i = eqb (claimSide G t x τ i) (operandSide G t x τ i)
 unfoldable pub firstRow : Setting → List ℕ → List ℕ → ℕ → ℕ
 firstRow G t x τ = first (G .rows) (balanced G t x τ)
 
-unfoldable pub firstVector : Setting → List ℕ → List ℕ → ℕ
-firstVector G t x = first (G .vectors) (λ τ. eqb (firstRow G t x τ) (G .rows))
-
 abbrev pub vectorProducts : Setting → ℕ
 vectorProducts G = G .inner * G .columns + G .rows * G .columns + G .rows * G .inner
 
+abbrev pub challengeProducts : Setting → ℕ
+challengeProducts G = G .vectors * vectorProducts G
+
+abbrev pub caughtProducts : Setting → ℕ → ℕ → ℕ
+caughtProducts G τ i = τ * vectorProducts G + G .inner * G .columns + (i + 1) * (G .columns + G .inner)
+
 abbrev pub accepted : Setting → Answer
-accepted G = record { number = 0; place = 0; row = 0; products = G .vectors * vectorProducts G }
+accepted G = answer 0 0 0 (challengeProducts G)
 
 abbrev pub caught : Setting → ℕ → ℕ → Answer
-caught G τ i =
-    record {
-      number = 12;
-      place = τ;
-      row = i;
-      products = τ * vectorProducts G + G .inner * G .columns + (i + 1) * (G .columns + G .inner);
-    }
+caught G τ i = answer 12 τ i (caughtProducts G τ i)
 
 unfoldable pub verdict : Setting → List ℕ → List ℕ → Answer
 verdict G t x =
-    let τ = firstVector G t x in
-    unless (eqb τ (G .vectors)) (caught G τ (firstRow G t x τ)) (accepted G)
+    scan (G .vectors) (λ τ. eqb (firstRow G t x τ) (G .rows)) (λ τ. caught G τ (firstRow G t x τ)) (accepted G)
 
 unfoldable pub challengeCheck : Setting → List ℕ → List ℕ → Answer
 challengeCheck G t x = after (reading G t) (after (listReading G x) (verdict G t x))

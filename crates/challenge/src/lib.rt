@@ -5,7 +5,6 @@ ghost use Rattle.challenge.specs.Rules.{challengeCheck};
 use ticket::Answer;
 use ticket::Setting;
 
-mod decode;
 mod lists;
 mod products;
 mod rows;

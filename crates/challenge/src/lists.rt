@@ -22,7 +22,7 @@ pub(crate) fn read_list(setting: Setting, list: &[u32]) -> Answer
     }
     let mut k: u32 = 0;
     while k < count {
-        if Residue::MODULUS <= list[k as usize] {
+        if !Residue(list[k as usize]).is_least() {
             return Answer {
                 number: 11,
                 place: k,

@@ -1,14 +1,13 @@
 // Products with a vector, modulo p.
 ghost use mathlib.Core.Path.{_≡_};
-ghost use Prim.Native.Nat.{_<_, _≤_};
+ghost use Prim.Native.Nat.{_≤_};
 ghost use lib.ListN.{length, getD};
-ghost use Rattle.residue.specs.Rules.{modulus, sum};
-ghost use Rattle.ticket.specs.Laws.Fills.{Filled};
+ghost use Rattle.residue.specs.Rules.{modulus};
 ghost use Rattle.ticket.specs.Rules.{mostColumns};
-ghost use Rattle.challenge.specs.Laws.Products.{dotOf, dotWith, offsetOf, DotReady, Product, ProductReady, RecordsReady, Vector, WideReady};
-use crate::decode::value;
+ghost use Rattle.challenge.specs.Laws.Products.{dotOf, dotWith, offsetOf, DotReady, NarrowReady, Product, ProductReady, RecordsReady, ResidueVector, Widened};
 use residue::ProductSum;
 use residue::Residue;
+use ticket::RECORD;
 use ticket::Setting;
 
 // The most rows that a matrix has here: B has as many as A has columns.
@@ -20,8 +19,7 @@ const COLUMNS: usize = Setting::MOST_COLUMNS as usize;
 // 2^32. No number of a vector reaches it; a remainder by it tells the compiler so.
 const WORD: u64 = 4_294_967_296;
 
-// The first rows of the product of a matrix and a vector, which is as long as each of its rows. The matrix is a slice of the ticket
-// that starts where its part does.
+// The first rows of the product of a matrix and a vector, which is as long as each of its rows. The matrix is a part of the ticket.
 pub(crate) fn product(matrix: &[u8], rows: usize, vector: &[u64]) -> [u64; ROWS]
     requires { ⌜ ProductReady (now matrix) rows (now vector) ⌝ }
     ensures { λ r. ⌜ Product (now (matrix .entry)) rows (now (vector .entry)) r ⌝ }
@@ -44,8 +42,9 @@ fn dot_records(records: &[u8], start: usize, vector: &[u64]) -> u32
     let mut sum = ProductSum::new();
     let mut r = 0;
     while r < vector.len() {
-        let value = value(records, start + r);
-        sum = sum.add((value as u64) * (vector[r] % WORD));
+        let at = RECORD * (start + r);
+        let value = ticket::value(&records[at..at + RECORD]);
+        sum = sum.add((value.0 as u64) * (vector[r] % WORD));
         r += 1;
     }
     sum.residue().0
@@ -53,7 +52,7 @@ fn dot_records(records: &[u8], start: usize, vector: &[u64]) -> u32
 
 // An offset plus the sum of the products of a list of numbers below 2^16 with those of a vector, modulo p. The sum is far below 2^64.
 pub(crate) fn dot(list: &[u32], vector: &[u64], offset: u64) -> u32
-    requires { ⌜ DotReady (now list) (now vector) offset ⌝ }
+    requires { ⌜ DotReady (now list) (now vector) × NarrowReady (now list) (now vector) offset ⌝ }
     ensures { λ r. ⌜ r ≡ dotWith offset (now (list .entry)) (now (vector .entry)) ⌝ }
 {
     let mut sum = offset;
@@ -67,7 +66,7 @@ pub(crate) fn dot(list: &[u32], vector: &[u64], offset: u64) -> u32
 
 // The same of a list of any numbers.
 pub(crate) fn wide_dot(list: &[u32], vector: &[u64], offset: u64) -> u32
-    requires { ⌜ WideReady (now list) (now vector) ⌝ }
+    requires { ⌜ DotReady (now list) (now vector) ⌝ }
     ensures { λ r. ⌜ r ≡ dotWith offset (now (list .entry)) (now (vector .entry)) ⌝ }
 {
     let mut sum = ProductSum::new();
@@ -81,18 +80,9 @@ pub(crate) fn wide_dot(list: &[u32], vector: &[u64], offset: u64) -> u32
 
 // What takes a shift of the other factors off a sum of products with a vector: the vector's sum times the negative of the shift,
 // modulo p.
-pub(crate) fn offset(vector: &[u64], shift: u32) -> u64
-    requires { ⌜ Vector (now vector) × (shift < modulus) ⌝ }
+pub(crate) fn offset(vector: &[u64], shift: u64) -> u64
+    requires { ⌜ ResidueVector (now vector) × (shift ≤ modulus) ⌝ }
     ensures { λ r. ⌜ r ≡ offsetOf shift (now (vector .entry)) ⌝ }
-{
-    let sum = Residue::reduce(total(vector)).0;
-    ((Residue::MODULUS - shift) as u64) * (sum as u64)
-}
-
-// The sum of a vector.
-fn total(vector: &[u64]) -> u64
-    requires { ⌜ Vector (now vector) ⌝ }
-    ensures { λ r. ⌜ r ≡ sum (length (now (vector .entry))) (λ j. getD (now (vector .entry)) j 0) ⌝ }
 {
     let mut sum: u64 = 0;
     let mut j = 0;
@@ -100,13 +90,14 @@ fn total(vector: &[u64]) -> u64
         sum += vector[j];
         j += 1;
     }
-    sum
+    let negative = (Residue::modulus() as u64) - shift;
+    negative * (Residue::reduce(sum).0 as u64)
 }
 
 // A vector in 64-bit numbers, as its products take them.
 pub(crate) fn widened(vector: &[u32]) -> [u64; COLUMNS]
     requires { ⌜ length (now vector) ≤ mostColumns ⌝ }
-    ensures { λ r. ⌜ Filled 0 mostColumns (length (now (vector .entry))) (λ j. getD (now (vector .entry)) j 0) r ⌝ }
+    ensures { λ r. ⌜ Widened (now (vector .entry)) r ⌝ }
 {
     let mut list = [0; COLUMNS];
     let mut j = 0;

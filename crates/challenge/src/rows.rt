@@ -1,12 +1,12 @@
 // Test 12: every row, for every vector.
 ghost use mathlib.Core.Path.{_≡_};
-ghost use Prim.Native.Nat.{_+_};
+ghost use Prim.Native.Nat.{_+_, _*_, _≤_};
 ghost use lib.ListN.{length};
+ghost use Rattle.algebra.specs.Laws.Fills.{lineAt};
+ghost use Rattle.ticket.specs.Laws.Runs.{step-answer};
 ghost use Rattle.challenge.specs.Rules.{verdict};
-ghost use Rattle.challenge.specs.Laws.Rows.{agrees, sidesEqual, Decoded, RowReady, RowsReady};
-ghost use Rattle.challenge.specs.Laws.Vectors.{rowAnswer, rowsAnswer, vectorAnswer, DecodeReady, ListReady, VectorReady};
-use crate::decode::lifted_claims;
-use crate::decode::shifted_entries;
+ghost use Rattle.challenge.specs.Laws.Rows.{rowAnswer, rowsAnswer, RowsReady, SidesReady};
+ghost use Rattle.challenge.specs.Laws.Vectors.{vectorSteps, Decoded, DecodeReady, ListReady, VectorReady};
 use crate::products::dot;
 use crate::products::offset;
 use crate::products::product;
@@ -14,11 +14,11 @@ use crate::products::wide_dot;
 use crate::products::widened;
 use residue::Residue;
 use ticket::Answer;
-use ticket::RECORD;
+use ticket::PartNumber;
 use ticket::Setting;
 
 // A ticket with at most so many entries of A, and as many claims, is small.
-const FEW: usize = 64;
+const SMALL_PART: usize = 64;
 
 // The most entries of A, and the most claims.
 const ENTRIES: usize = (Setting::MOST_ROWS * Setting::MOST_INNER) as usize;
@@ -30,12 +30,12 @@ pub(crate) fn check_list(setting: Setting, ticket: &[u8], list: &[u32]) -> Answe
     requires { ⌜ ListReady setting (now ticket) (now list) ⌝ }
     ensures { λ r. ⌜ r ≡ verdict setting (now (ticket .entry)) (now (list .entry)) ⌝ }
 {
-    let entries = (setting.rows * setting.inner) as usize;
-    let claims = (setting.rows * setting.columns) as usize;
-    if entries <= FEW {
-        if claims <= FEW {
-            let mut a = [0; FEW];
-            let mut w = [0; FEW];
+    let entries = setting.size(PartNumber::A) as usize;
+    let claims = setting.size(PartNumber::QUOTIENTS) as usize;
+    if entries <= SMALL_PART {
+        if claims <= SMALL_PART {
+            let mut a = [0; SMALL_PART];
+            let mut w = [0; SMALL_PART];
             return check_decoded(setting, ticket, list, &mut a, &mut w);
         }
     }
@@ -55,22 +55,12 @@ fn check_decoded(
     requires { ⌜ DecodeReady setting (now ticket) (now list) (length (now a)) (length (now w)) ⌝ }
     ensures { λ r. ⌜ r ≡ verdict setting (now (ticket .entry)) (now (list .entry)) ⌝ }
 {
-    let entries = (setting.rows * setting.inner) as usize;
-    let operands = entries + (setting.inner * setting.columns) as usize;
-    let count = (setting.rows * setting.columns) as usize;
-    let of_quotients = RECORD * operands;
-    let of_remainders = RECORD * (operands + count);
-    let half = Residue::power_of_two(setting.width - 1).0;
-    shifted_entries(ticket, entries, setting.bound, a);
-    lifted_claims(
-        &ticket[of_quotients..],
-        &ticket[of_remainders..],
-        count,
-        half,
-        setting.scale,
-        w,
-    );
-    check_vectors(setting, ticket, a, w, half * setting.scale, list)
+    let entries = ticket::part(setting, ticket, PartNumber::A);
+    let quotients = ticket::part(setting, ticket, PartNumber::QUOTIENTS);
+    let remainders = ticket::part(setting, ticket, PartNumber::REMAINDERS);
+    ticket::shifted_entries(entries, Residue(setting.bound), a);
+    ticket::lifted_claims(quotients, remainders, setting.half(), setting.scale, w);
+    check_vectors(setting, ticket, a, w, setting.lift(), list)
 }
 
 // All rows for all vectors, one after the other, up to the first row that is caught.
@@ -79,20 +69,16 @@ fn check_vectors(
     ticket: &[u8],
     a: &[u32],
     w: &[u32],
-    lift: u32,
+    lift: u64,
     list: &[u32],
 ) -> Answer
     requires { ⌜ ListReady setting (now ticket) (now list) × Decoded setting (now ticket) (now a) (now w) lift ⌝ }
     ensures { λ r. ⌜ r ≡ verdict setting (now (ticket .entry)) (now (list .entry)) ⌝ }
 {
-    let columns = setting.columns as usize;
     let mut answer = Answer::PASSED;
     let mut t: u32 = 0;
     while t < setting.vectors {
-        let start = (t as usize) * columns;
-        let end = start + columns;
-        let x = &list[start..end];
-        answer = check_vector(setting, ticket, a, w, lift, x, t, answer.products);
+        answer = check_vector(setting, ticket, a, w, lift, list, t, answer.products);
         if answer.number != 0 {
             return answer;
         }
@@ -101,27 +87,26 @@ fn check_vectors(
     answer
 }
 
-// All rows for one vector, number t, from the products made before it. B is read as a part: the matrix-vector product gets the slice
-// of the ticket that starts where B does.
+// All rows for vector number t of the list, from the products made before it. B is read as a part: the matrix-vector product gets the
+// slice of the ticket that starts where B does.
 fn check_vector(
     setting: Setting,
     ticket: &[u8],
     a: &[u32],
     w: &[u32],
-    lift: u32,
-    x: &[u32],
+    lift: u64,
+    list: &[u32],
     t: u32,
     products: u32,
 ) -> Answer
-    requires { ⌜ VectorReady setting (now ticket) (now x) products × Decoded setting (now ticket) (now a) (now w) lift ⌝ }
-    ensures { λ r. ⌜ r ≡ vectorAnswer setting (now (ticket .entry)) (now (x .entry)) t products ⌝ }
+    requires { ⌜ VectorReady setting (now ticket) (now list) t products × Decoded setting (now ticket) (now a) (now w) lift ⌝ }
+    ensures { λ r. ⌜ r ≡ step-answer (vectorSteps setting (now (ticket .entry)) (now (list .entry))) t ⌝ }
 {
-    let start = setting.rows * setting.inner;
-    let at = RECORD * (start as usize);
     let inner = setting.inner as usize;
     let columns = setting.columns as usize;
-    let x = widened(x);
-    let u = product(&ticket[at..], inner, &x[..columns]);
+    let x = widened(line(list, columns, t));
+    let b = ticket::part(setting, ticket, PartNumber::B);
+    let u = product(b, inner, &x[..columns]);
     let made = products + setting.inner * setting.columns;
     check_rows(setting, a, w, lift, &x[..columns], &u[..inner], t, made)
 }
@@ -131,19 +116,19 @@ fn check_rows(
     setting: Setting,
     a: &[u32],
     w: &[u32],
-    lift: u32,
+    lift: u64,
     x: &[u64],
     u: &[u64],
     t: u32,
     products: u32,
 ) -> Answer
     requires { ⌜ RowsReady setting (now a) (now w) lift (now x) (now u) products ⌝ }
-    ensures { λ r. ⌜ r ≡ rowsAnswer setting (agrees setting (now (a .entry)) (now (w .entry)) lift (now (x .entry)) (now (u .entry))) t products ⌝ }
+    ensures { λ r. ⌜ r ≡ rowsAnswer setting (now (a .entry)) (now (w .entry)) lift (now (x .entry)) (now (u .entry)) t products ⌝ }
 {
     let inner = setting.inner as usize;
     let columns = setting.columns as usize;
     let left = offset(x, lift);
-    let right = offset(u, setting.bound);
+    let right = offset(u, setting.bound as u64);
     let mut answer = Answer {
         number: 0,
         place: 0,
@@ -152,11 +137,9 @@ fn check_rows(
     };
     let mut row: u32 = 0;
     while row < setting.rows {
-        let i = (row as usize) * inner;
-        let j = (row as usize) * columns;
         answer = check_row(
-            &a[i..i + inner],
-            &w[j..j + columns],
+            line(a, inner, row),
+            line(w, columns, row),
             x,
             u,
             left,
@@ -187,8 +170,8 @@ fn check_row(
     row: u32,
     products: u32,
 ) -> Answer
-    requires { ⌜ RowReady (now a) (now w) (now x) (now u) right products ⌝ }
-    ensures { λ r. ⌜ r ≡ rowAnswer (sidesEqual left right (now (a .entry)) (now (w .entry)) (now (x .entry)) (now (u .entry))) t row (products + length (now (x .entry)) + length (now (u .entry))) ⌝ }
+    requires { ⌜ SidesReady (now a) (now w) (now x) (now u) right products ⌝ }
+    ensures { λ r. ⌜ r ≡ rowAnswer left right (now (a .entry)) (now (w .entry)) (now (x .entry)) (now (u .entry)) t row products ⌝ }
 {
     let claims = wide_dot(w, x, left);
     let product = dot(a, u, right);
@@ -207,4 +190,13 @@ fn check_row(
         row: 0,
         products: made,
     }
+}
+
+// Line number k of a list, which stands line after line, each of the given size.
+fn line(list: &[u32], size: usize, k: u32) -> &[u32]
+    requires { ⌜ k * size + size ≤ length (now list) ⌝ }
+    ensures { λ r. ⌜ now r ≡ lineAt (now (list .entry)) size k ⌝ }
+{
+    let start = (k as usize) * size;
+    &list[start..start + size]
 }

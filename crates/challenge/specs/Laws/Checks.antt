@@ -1,21 +1,20 @@
--- The whole check, as the code makes it: the tests of the ticket, then those of the list, then the rows.
+-- The whole check: the tests of the ticket, then those of the list, then the rows.
 --
 --   check-ticket    where the ticket is refused, so is the check
 --   check-list      where the ticket passes and the list is refused, so is the check
 --   check-rows      where both pass, the check is the verdict of the rows
---   list-ready      then the rows can be worked through
+--   rows-can        and the rows can be worked through
 use mathlib.Core.Path.{_≡_, sym, ap, _∙_}
 use mathlib.Core.List.{List}
 use Prim.Native.Nat.{ℕ}
 use Rattle.ticket.specs.declared.setting.Setting.{Setting}
 use Rattle.ticket.specs.declared.Answer.{Answer}
 use Rattle.ticket.specs.Rules.{reading, after}
-use Rattle.ticket.specs.Laws.Parts.{length-by-parts}
 use Rattle.ticket.specs.Laws.Passes.{passed-of}
 use Rattle.ticket.specs.Laws.Scans.{after-passed, after-refused}
 use Rattle.challenge.specs.Rules.{listReading, verdict, challengeCheck}
-use Rattle.challenge.specs.Laws.Lists.{formed-length, formed-below}
-use Rattle.challenge.specs.Laws.Vectors.{ListReady}
+use Rattle.challenge.specs.Laws.Lists.{well-formed-is}
+use Rattle.challenge.specs.Laws.Vectors.{ListReady, list-ready}
 
 module _ (G : Setting) (t x : List ℕ) {a : Answer} (a-is : a ≡ reading G t) where
   pub check-ticket : (a .number ≡ 0 → ⊥) → a ≡ challengeCheck G t x
@@ -35,12 +34,7 @@ module _ (G : Setting) (t x : List ℕ) {a : Answer} (a-is : a ≡ reading G t) 
         pub check-rows : {c : Answer} → c ≡ verdict G t x → c ≡ challengeCheck G t x
         check-rows c-is = c-is ∙ sym (later ∙ after-passed _ _ (sym (ap (λ c. c .number) b-is) ∙ formed))
 
-        pub list-ready : ListReady G t x
-        list-ready =
-            let passed = passed-of G t (sym (ap (λ c. c .number) a-is) ∙ passes) in
-            record {
-              passed = passed;
-              long = passed .long ∙ length-by-parts G;
-              size = formed-length G x (sym (ap (λ c. c .number) b-is) ∙ formed);
-              below = formed-below G x (sym (ap (λ c. c .number) b-is) ∙ formed);
-            }
+        pub rows-can : ListReady G t x
+        rows-can =
+            list-ready (passed-of G t (sym (ap (λ c. c .number) a-is) ∙ passes))
+            (well-formed-is G x .0 (sym (ap (λ c. c .number) b-is) ∙ formed))

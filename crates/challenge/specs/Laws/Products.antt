@@ -4,7 +4,8 @@
 --   dotOf b a x       their sum over all numbers of x, modulo p
 --   offsetOf s x      what takes a shift s of the other factors off a sum of products with x
 --   dotWith o l x     o plus the sum of the products of the numbers of l and x, modulo p
---   Vector x          x has no more numbers than a row of a matrix, and they are least residues
+--   side-made         with the shift taken off, that is the sum of the integers that l holds shifted, times x, modulo p
+--   ResidueVector x   x has no more numbers than a row of a matrix, and they are least residues
 --   offset-made       an offset as the code makes it
 --   offset-small      it is below 2^62
 --   Reached o f n s   s is o plus the sum of the first n values of f
@@ -13,26 +14,29 @@
 --   total-fits        the sum of a vector fits 64 bits
 --   narrow-fits       so does the sum of its products with numbers below 2^16
 --   RecordsReady b a x   the records of b from a on can be multiplied with x
---   DotReady l x o    so can the numbers of l, which are below 2^16, with o added
---   WideReady l x     so can any numbers
+--   DotReady l x      so can the numbers of l
+--   NarrowReady l x o    these are below 2^16, and o is small
 --   ProductReady b m x   b has m rows of records for x
 --   records-ready     then each row can be multiplied
 --   Product b m x u   the first m numbers of u are the rows of b times x
+--   Widened x l       l begins with the numbers of x
 use Prim.Native.Nat.{ℕ, _+_, _-_, _*_, _%_, _≤_, _<_, _^_}
 use native.Mathlib.Nat.{mod-lt, mod-eq-of-lt, mul-le-mul}
 use native.Mathlib.Omega.{arith}
 use mathlib.Core.Path.{_≡_, sym, ap, _∙_}
 use mathlib.Core.List.{List}
-use lib.IntN.{pos}
-use lib.ListN.{length, getD}
+use lib.IntN.{ℤ, pos, _+ℤ_, _*ℤ_}
+use lib.ListN.{length, getD, replicate}
 use Rattle.residue.specs.Rules.{modulus, leastResidue, sum}
-use Rattle.residue.specs.Laws.Modulus.{modulus-is, modulus-positive}
+use Rattle.residue.specs.Laws.Modulus.{modulus-below, modulus-positive}
 use Rattle.residue.specs.Laws.Residues.{residue-of-natural}
 use Rattle.residue.specs.Laws.Sums.{sum-none, sum-more, sum-below}
-use Rattle.ticket.specs.Rules.{mostInner, recordBytes, valueAt}
-use Rattle.ticket.specs.Laws.Fills.{Filled}
-use Rattle.ticket.specs.Laws.Positions.{row-inside}
-use Rattle.challenge.specs.Laws.Shifts.{taken-off, narrow-term, narrow-sum}
+use Rattle.algebra.specs.Rules.{sumℤ}
+use Rattle.algebra.specs.Laws.Fills.{Filled}
+use Rattle.algebra.specs.Laws.IntegerSums.{sumℤ-cong}
+use Rattle.algebra.specs.Laws.Positions.{row-inside}
+use Rattle.ticket.specs.Rules.{mostColumns, mostInner, recordBytes, valueAt}
+use Rattle.challenge.specs.Laws.Shifts.{taken-off, shift-off, narrow-term, narrow-sum}
 
 abbrev pub terms : List ℕ → ℕ → List ℕ → ℕ → ℕ
 terms bytes start x j = valueAt bytes (start + j) * getD x j 0
@@ -46,22 +50,31 @@ offsetOf shift x = taken-off modulus shift (length x) (λ j. getD x j 0)
 unfoldable pub dotWith : ℕ → List ℕ → List ℕ → ℕ
 dotWith offset list x = (offset + sum (length x) (λ j. getD list j 0 * getD x j 0)) % modulus
 
-pub record Vector (x : List ℕ) : Type 0 where
+pub side-made : (s n : ℕ) (z : ℕ → ℤ) (x : ℕ → ℕ) (list v : List ℕ) → s ≤ modulus → length v ≡ n
+    → ((j : ℕ) → j < n → getD v j 0 ≡ x j) → ((j : ℕ) → j < n → pos (getD list j 0) ≡ z j +ℤ pos s)
+    → dotWith (offsetOf s v) list v ≡ leastResidue modulus (sumℤ n (λ j. z j *ℤ pos (x j)))
+unfolding dotWith
+side-made s n z x list v most size same shifted =
+    shift-off modulus modulus-positive s (length v) z (λ j. getD list j 0) (λ j. getD v j 0) (λ j l. shifted j (omega arith)) most
+    ∙ ap (λ m. leastResidue modulus (sumℤ m (λ j. z j *ℤ pos (getD v j 0)))) size
+    ∙ ap (leastResidue modulus) (sumℤ-cong n _ _ (λ j l. ap (λ m. z j *ℤ pos m) (same j l)))
+
+pub record ResidueVector (x : List ℕ) : Type 0 where
   pub short : length x ≤ mostInner
   pub below : (j : ℕ) → j < length x → getD x j 0 < modulus
 
-pub offset-made : (shift n : ℕ) (x : ℕ → ℕ) {total r : ℕ} → total ≡ sum n x → r ≡ leastResidue modulus (pos total)
-    → (2 ^ 31 - 1 - shift) * r ≡ taken-off modulus shift n x
+pub offset-made : (shift n : ℕ) (x : ℕ → ℕ) {p total r : ℕ} → p ≡ modulus → total ≡ sum n x → r ≡ leastResidue modulus (pos total)
+    → (p - shift) * r ≡ taken-off modulus shift n x
 unfolding taken-off
-offset-made shift n x {total} {r} t e =
-    ap (λ m. (m - shift) * r) (sym modulus-is)
+offset-made shift n x {p} {total} {r} p-is t e =
+    ap (λ m. (m - shift) * r) p-is
     ∙ ap (λ k. (modulus - shift) * k) (e ∙ residue-of-natural modulus modulus-positive total ∙ ap (λ k. k % modulus) t)
 
 pub offset-small : (shift n : ℕ) (x : ℕ → ℕ) → taken-off modulus shift n x < 2 ^ 62
 unfolding taken-off
 offset-small shift n x =
-    let a : modulus - shift ≤ 2 ^ 31 - 1 = omega (arith, modulus-is) in
-    let b : sum n x % modulus ≤ 2 ^ 31 - 1 = omega (arith, modulus-is, mod-lt (sum n x) modulus-positive) in
+    let a : modulus - shift ≤ 2 ^ 31 - 1 = omega (arith, modulus-below) in
+    let b : sum n x % modulus ≤ 2 ^ 31 - 1 = omega (arith, modulus-below, mod-lt (sum n x) modulus-positive) in
     omega (arith, mul-le-mul a b)
 
 abbrev pub Reached : ℕ → (ℕ → ℕ) → ℕ → ℕ → Type 0
@@ -78,15 +91,15 @@ reached-all offset f n {k} reached l m =
     let same : k ≡ n = omega arith in
     reached ∙ ap (λ i. offset + sum i f) same
 
-module _ {x : List ℕ} (vector : Vector x) {j : ℕ} (l : j < length x) where
+module _ {x : List ℕ} (vector : ResidueVector x) {j : ℕ} (l : j < length x) where
   pub word-is : getD x j 0 % 4_294_967_296 ≡ getD x j 0
-  word-is = mod-eq-of-lt (omega (arith, vector .below j l, modulus-is))
+  word-is = mod-eq-of-lt (omega (arith, vector .below j l, modulus-below))
 
   pub total-fits : sum j (λ i. getD x i 0) + getD x j 0 < 2 ^ 40
   total-fits =
       omega (
         arith,
-        sum-below (j + 1) (2 ^ 31) (λ i. getD x i 0) (λ i m. omega (arith, vector .below i (omega arith), modulus-is)),
+        sum-below (j + 1) (2 ^ 31) (λ i. getD x i 0) (λ i m. omega (arith, vector .below i (omega arith), modulus-below)),
         sum-more j (λ i. getD x i 0),
         vector .short,
       )
@@ -104,21 +117,19 @@ module _ {x : List ℕ} (vector : Vector x) {j : ℕ} (l : j < length x) where
   )
 
 pub record RecordsReady (bytes : List ℕ) (start : ℕ) (x : List ℕ) : Type 0 where
-  pub vector : Vector x
+  pub vector : ResidueVector x
   pub long : recordBytes * (start + length x) ≤ length bytes
 
-pub record DotReady (list x : List ℕ) (offset : ℕ) : Type 0 where
-  pub vector : Vector x
+pub record DotReady (list x : List ℕ) : Type 0 where
+  pub vector : ResidueVector x
   pub long : length x ≤ length list
+
+pub record NarrowReady (list x : List ℕ) (offset : ℕ) : Type 0 where
   pub small : (j : ℕ) → j < length x → getD list j 0 < 2 ^ 16
   pub offset-small : offset < 2 ^ 62
 
-pub record WideReady (list x : List ℕ) : Type 0 where
-  pub vector : Vector x
-  pub long : length x ≤ length list
-
 pub record ProductReady (bytes : List ℕ) (rows : ℕ) (x : List ℕ) : Type 0 where
-  pub vector : Vector x
+  pub vector : ResidueVector x
   pub few : rows ≤ mostInner
   pub long : recordBytes * (rows * length x) ≤ length bytes
 
@@ -127,4 +138,7 @@ records-ready {bytes} {x} ready l =
     record { vector = ready .vector; long = omega (arith, ready .long, row-inside (length x) l) }
 
 abbrev pub Product : List ℕ → ℕ → List ℕ → List ℕ → Type 0
-Product bytes rows x u = Filled 0 mostInner rows (λ k. dotOf bytes (k * length x) x) u
+Product bytes rows x u = Filled 0 (replicate mostInner 0) rows (λ k. dotOf bytes (k * length x) x) u
+
+abbrev pub Widened : List ℕ → List ℕ → Type 0
+Widened x list = Filled 0 (replicate mostColumns 0) (length x) (λ j. getD x j 0) list

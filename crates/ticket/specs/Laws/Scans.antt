@@ -2,6 +2,8 @@
 --
 --   scan-none       where the test holds everywhere, the answer of a scan is that of no failure
 --   scan-is         it is that of place i, where the test fails there and holds before it
+--   scan-by-first   it by the first place at which the test fails
+--   scan-cong       equal tests give equal answers
 --   refusal-none    where all numbers are 0, there is no refusal
 --   refusal-is      the refusal is at i, where the number there is not 0 and those before it are
 --   FirstOther n f i, zeros-or-first   either all of n numbers are 0, or there is a first that is not
@@ -9,7 +11,7 @@
 --   refusal-cong    equal numbers give equal answers
 --   refusal-split   a scan of m + n numbers is a scan of m, then one of the n after them
 use Rattle.ticket.specs.Rules.{first, unless, scan, firstRefusal, after, refusal}
-use Rattle.ticket.specs.Laws.First.{first-none, first-is, holds-or-first}
+use Rattle.ticket.specs.Laws.First.{first-none, first-is, first-cong, holds-or-first}
 use Rattle.ticket.specs.declared.Answer.{Answer}
 use Prim.Native.Nat.{ℕ, zero, suc, _+_, _<_}
 use native.Mathlib.Omega.{arith}
@@ -107,3 +109,13 @@ refusal-split start (suc m) n f =
     let from : start + suc m ≡ start + 1 + m = omega arith in
     rw (suc-add m n, from, refusal-first start (m + n) f, rest, after-after, ← refusal-first start m f)
     (ap (after (firstRefusal start (suc m) f)) (refusal-cong (start + 1 + m) n _ _ (λ i l. ap f (omega arith))))
+
+pub scan-by-first : (n : ℕ) (f : ℕ → Bool) (failed : ℕ → Answer) (passed : Answer)
+    → scan n f failed passed ≡ unless (eqb (first n f) n) (failed (first n f)) passed
+unfolding scan
+scan-by-first n f failed passed = refl
+
+pub scan-cong : (n : ℕ) (f g : ℕ → Bool) (failed : ℕ → Answer) (passed : Answer) → ((k : ℕ) → k < n → f k ≡ g k)
+    → scan n f failed passed ≡ scan n g failed passed
+unfolding scan
+scan-cong n f g failed passed h = rw (first-cong n f g h)
