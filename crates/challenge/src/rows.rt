@@ -104,11 +104,12 @@ fn check_vector(
 {
     let inner = setting.inner as usize;
     let columns = setting.columns as usize;
-    let x = widened(line(list, columns, t));
+    let wide = widened(line(list, columns, t));
+    let x = &wide[..columns];
     let b = ticket::part(setting, ticket, PartNumber::B);
-    let u = product(b, inner, &x[..columns]);
+    let u = product(b, inner, x);
     let made = products + setting.inner * setting.columns;
-    check_rows(setting, a, w, lift, &x[..columns], &u[..inner], t, made)
+    check_rows(setting, a, w, lift, x, &u[..inner], t, made)
 }
 
 // All rows for one vector, x, and its product u with B.

@@ -10,12 +10,12 @@
 --   offset-small      it is below 2^62
 --   Reached o f n s   s is o plus the sum of the first n values of f
 --   reached-none, reached-more, reached-all   no value is added yet, one more, and all
---   word-is           a least residue is a 32-bit number
 --   total-fits        the sum of a vector fits 64 bits
---   narrow-fits       so does the sum of its products with numbers below 2^16
+--   term-fits, term-more   so does its product with a 32-bit number, and one such product more is added in two words
 --   RecordsReady b a x   the records of b from a on can be multiplied with x
 --   DotReady l x      so can the numbers of l
 --   NarrowReady l x o    these are below 2^16, and o is small
+--   narrow-fits, narrow-more   then the sum of o and the products fits 64 bits, and one product more is added
 --   ProductReady b m x   b has m rows of records for x
 --   records-ready     then each row can be multiplied
 --   Product b m x u   the first m numbers of u are the rows of b times x
@@ -27,8 +27,9 @@ use mathlib.Core.Path.{_≡_, sym, ap, _∙_}
 use mathlib.Core.List.{List}
 use lib.IntN.{ℤ, pos, _+ℤ_, _*ℤ_}
 use lib.ListN.{length, getD, replicate}
-use Rattle.residue.specs.Rules.{modulus, leastResidue, sum}
+use Rattle.residue.specs.Rules.{modulus, leastResidue, sum, WithNumber}
 use Rattle.residue.specs.Laws.Modulus.{modulus-below, modulus-positive}
+use Rattle.residue.specs.Laws.Products.{product-below, Holds, holds-more}
 use Rattle.residue.specs.Laws.Residues.{residue-of-natural}
 use Rattle.residue.specs.Laws.Sums.{sum-none, sum-more, sum-below}
 use Rattle.algebra.specs.Rules.{sumℤ}
@@ -63,13 +64,6 @@ pub record ResidueVector (x : List ℕ) : Type 0 where
   pub short : length x ≤ mostInner
   pub below : (j : ℕ) → j < length x → getD x j 0 < modulus
 
-pub offset-made : (shift n : ℕ) (x : ℕ → ℕ) {p total r : ℕ} → p ≡ modulus → total ≡ sum n x → r ≡ leastResidue modulus (pos total)
-    → (p - shift) * r ≡ taken-off modulus shift n x
-unfolding taken-off
-offset-made shift n x {p} {total} {r} p-is t e =
-    ap (λ m. (m - shift) * r) p-is
-    ∙ ap (λ k. (modulus - shift) * k) (e ∙ residue-of-natural modulus modulus-positive total ∙ ap (λ k. k % modulus) t)
-
 pub offset-small : (shift n : ℕ) (x : ℕ → ℕ) → taken-off modulus shift n x < 2 ^ 62
 unfolding taken-off
 offset-small shift n x =
@@ -91,12 +85,21 @@ reached-all offset f n {k} reached l m =
     let same : k ≡ n = omega arith in
     reached ∙ ap (λ i. offset + sum i f) same
 
+pub offset-made : (shift n : ℕ) (x : ℕ → ℕ) {p k total r : ℕ} → p ≡ modulus → Reached 0 x k total → k ≤ n → n ≤ k
+    → r ≡ leastResidue modulus (pos total) → (p - shift) * r ≡ taken-off modulus shift n x
+unfolding taken-off
+offset-made shift n x {p} {k} {total} {r} p-is reached l m e =
+    ap (λ q. (q - shift) * r) p-is
+    ∙ ap (λ q. (modulus - shift) * q) (e ∙ residue-of-natural modulus modulus-positive total ∙ ap (λ q. q % modulus) (reached-all 0 x n reached l m ∙ omega arith))
+
+-- sums of products in two words, of 64 bits, and in one
+
 module _ {x : List ℕ} (vector : ResidueVector x) {j : ℕ} (l : j < length x) where
-  pub word-is : getD x j 0 % 4_294_967_296 ≡ getD x j 0
+  word-is : getD x j 0 % 2 ^ 32 ≡ getD x j 0
   word-is = mod-eq-of-lt (omega (arith, vector .below j l, modulus-below))
 
-  pub total-fits : sum j (λ i. getD x i 0) + getD x j 0 < 2 ^ 40
-  total-fits =
+  pub total-fits : {s : ℕ} → Reached 0 (λ i. getD x i 0) j s → s + getD x j 0 < 2 ^ 40
+  total-fits reached =
       omega (
         arith,
         sum-below (j + 1) (2 ^ 31) (λ i. getD x i 0) (λ i m. omega (arith, vector .below i (omega arith), modulus-below)),
@@ -104,17 +107,13 @@ module _ {x : List ℕ} (vector : ResidueVector x) {j : ℕ} (l : j < length x) 
         vector .short,
       )
 
-  pub narrow-fits : (e : ℕ → ℕ) → ((i : ℕ) → i < length x → e i < 2 ^ 16)
-      → (e j * getD x j 0 ≤ 2 ^ 47) × (sum j (λ i. e i * getD x i 0) + e j * getD x j 0 ≤ 2 ^ 53)
-  narrow-fits e small = (
-    narrow-term (small j l) (vector .below j l),
-    omega (
-      arith,
-      narrow-sum (j + 1) e (λ i. getD x i 0) (λ i m. small i (omega arith)) (λ i m. vector .below i (omega arith)),
-      sum-more j (λ i. e i * getD x i 0),
-      vector .short,
-    ),
-  )
+  module _ {v : ℕ} (small : v < 2 ^ 32) where
+    pub term-fits : v * (getD x j 0 % 2 ^ 32) < 2 ^ 64
+    term-fits = product-below 32 small (mod-lt (getD x j 0) (omega arith))
+
+    pub term-more : {f : ℕ → ℕ} {low high low' high' : ℕ} → f j ≡ v * getD x j 0 → Holds j f low high
+        → WithNumber low high (v * (getD x j 0 % 2 ^ 32)) low' high' → Holds (j + 1) f low' high'
+    term-more term = holds-more (omega (arith, vector .short)) term-fits (term ∙ ap (λ n. v * n) (sym word-is))
 
 pub record RecordsReady (bytes : List ℕ) (start : ℕ) (x : List ℕ) : Type 0 where
   pub vector : ResidueVector x
@@ -127,6 +126,25 @@ pub record DotReady (list x : List ℕ) : Type 0 where
 pub record NarrowReady (list x : List ℕ) (offset : ℕ) : Type 0 where
   pub small : (j : ℕ) → j < length x → getD list j 0 < 2 ^ 16
   pub offset-small : offset < 2 ^ 62
+
+module _ {list x : List ℕ} {offset : ℕ} (ready : DotReady list x) (narrow : NarrowReady list x offset)
+    {j s : ℕ} (l : j < length x) (reached : Reached offset (λ i. getD list i 0 * getD x i 0) j s) where
+  pub narrow-fits : (getD list j 0 * (getD x j 0 % 2 ^ 32) ≤ 2 ^ 47) × (s + getD list j 0 * (getD x j 0 % 2 ^ 32) < 2 ^ 63)
+  narrow-fits =
+      rw (word-is (ready .vector) l) (
+        narrow-term (narrow .small j l) (ready .vector .below j l),
+        omega (
+          arith,
+          narrow-sum (j + 1) (λ i. getD list i 0) (λ i. getD x i 0) (λ i m. narrow .small i (omega arith))
+              (λ i m. ready .vector .below i (omega arith)),
+          sum-more j (λ i. getD list i 0 * getD x i 0),
+          ready .vector .short,
+          narrow .offset-small,
+        ),
+      )
+
+  pub narrow-more : Reached offset (λ i. getD list i 0 * getD x i 0) (j + 1) (s + getD list j 0 * (getD x j 0 % 2 ^ 32))
+  narrow-more = reached-more offset (λ i. getD list i 0 * getD x i 0) reached (ap (λ n. getD list j 0 * n) (word-is (ready .vector) l))
 
 pub record ProductReady (bytes : List ℕ) (rows : ℕ) (x : List ℕ) : Type 0 where
   pub vector : ResidueVector x

@@ -9,6 +9,7 @@
 --   VectorReady G t x τ q    vector τ can be worked through after q products
 --   vector-ready             each can, those before it having passed
 --   vector-inside            it is within the list
+--   vector-long, vector-short   how many numbers it has
 --   widened-same             the vector in 64-bit numbers is the same list
 --   matrix-ready             the bytes of B hold its rows
 --   product-long             its product u with B has as many numbers as B has rows
@@ -130,15 +131,24 @@ pub vectors-answer : (G : Setting) (t x : List ℕ) → steps-answer (vectorStep
 unfolding verdict
 vectors-answer G t x = refl
 
--- the products before a vector fit, with those of the vector
 pub record VectorReady (G : Setting) (t x : List ℕ) (τ products : ℕ) : Type 0 where
   pub list : ListReady G t x
   pub within : τ < G .vectors
   pub made : products ≡ τ * vectorProducts G
+  pub few : products + vectorProducts G < 2 ^ 32
 
 pub vector-ready : {G : Setting} {t x : List ℕ} {τ : ℕ} {a : Answer} → ListReady G t x → RunTo (vectorSteps G t x) τ a → τ < G .vectors
     → VectorReady G t x τ (a .products)
-vector-ready ready run l = record { list = ready; within = l; made = ap (λ b. b .products) (run .answer-is) }
+vector-ready {G} {τ = τ} {a} ready run l =
+    let counts = ready .passed .counts in
+    let most : vectorProducts G ≤ mostInner * mostColumns + mostRows * mostColumns + mostRows * mostInner = omega arith in
+    let made : a .products ≡ τ * vectorProducts G = ap (λ b. b .products) (run .answer-is) in
+    record {
+      list = ready;
+      within = l;
+      made = made;
+      few = omega (arith, row-inside (vectorProducts G) l, mul-le-mul (counts .sizes .vectors .1) most);
+    }
 
 module _ {G : Setting} {t x : List ℕ} {τ products : ℕ} (ready : VectorReady G t x τ products) where
   abbrev v : List ℕ
@@ -147,8 +157,11 @@ module _ {G : Setting} {t x : List ℕ} {τ products : ℕ} (ready : VectorReady
   pub vector-inside : τ * G .columns + G .columns ≤ length x
   vector-inside = line-inside (G .columns) (ready .within) (omega (arith, ready .list .list .size))
 
-  long : length v ≡ G .columns
-  long = part-long x (τ * G .columns) (G .columns) vector-inside
+  pub vector-long : length v ≡ G .columns
+  vector-long = part-long x (τ * G .columns) (G .columns) vector-inside
+
+  pub vector-short : {y : List ℕ} → y ≡ v → length y ≤ mostColumns
+  vector-short e = omega (arith, ap length e ∙ vector-long, ready .list .passed .counts .sizes)
 
   entries : (j : ℕ) → j < G .columns → getD v j 0 ≡ challengeAt G x τ j
   entries j l = part-of x (τ * G .columns) (G .columns) j 0 l
@@ -156,9 +169,9 @@ module _ {G : Setting} {t x : List ℕ} {τ products : ℕ} (ready : VectorReady
   vector : ResidueVector v
   vector =
       record {
-        short = omega (arith, long, ready .list .passed .counts .sizes);
+        short = omega (arith, vector-long, ready .list .passed .counts .sizes);
         below = λ j l.
-            let m : j < G .columns = omega (arith, long) in
+            let m : j < G .columns = omega (arith, vector-long) in
             rw (entries j m) (ready .list .list .below (τ * G .columns + j) (omega (arith, vector-inside, ready .list .list .size)));
       }
 
@@ -166,8 +179,8 @@ module _ {G : Setting} {t x : List ℕ} {τ products : ℕ} (ready : VectorReady
   widened-same {y} {wide} y-is filled =
       let size : length (take (G .columns) wide) ≡ G .columns =
       length-take-le (G .columns) wide (omega (arith, filled .long, length-replicate {A = ℕ} mostColumns 0, ready .list .passed .counts .sizes)) in
-      ext-getD 0 (take (G .columns) wide) v (size ∙ sym long)
-      (λ j l. getD-take (G .columns) wide j 0 (omega arith) ∙ filled .each j (rw (y-is, long) (omega arith)) ∙ ap (λ z. getD z j 0) y-is)
+      ext-getD 0 (take (G .columns) wide) v (size ∙ sym vector-long)
+      (λ j l. getD-take (G .columns) wide j 0 (omega arith) ∙ filled .each j (rw (y-is, vector-long) (omega arith)) ∙ ap (λ z. getD z j 0) y-is)
 
   module _ {y b : List ℕ} (y-is : y ≡ v) (b-is : b ≡ partBytes (clamped G) t ofB) where
     pub matrix-ready : ProductReady b (G .inner) y
@@ -176,7 +189,7 @@ module _ {G : Setting} {t x : List ℕ} {τ products : ℕ} (ready : VectorReady
         record {
           vector = vector;
           few = omega (arith, ready .list .passed .counts .sizes);
-          long = omega (arith, ap (λ n. G .inner * n) long, values-B (ready .list .passed) b-is .0);
+          long = omega (arith, ap (λ n. G .inner * n) vector-long, values-B (ready .list .passed) b-is .0);
         })
 
     module _ {u : List ℕ} (made : Product b (G .inner) y u) where
@@ -187,7 +200,7 @@ module _ {G : Setting} {t x : List ℕ} {τ products : ℕ} (ready : VectorReady
       product-made : (k : ℕ) → k < G .inner → getD (take (G .inner) u) k 0 ≡ productB G t x τ k
       unfolding dotOf productB
       product-made k l =
-          getD-take (G .inner) u k 0 l ∙ made .each k l ∙ rw (y-is, long)
+          getD-take (G .inner) u k 0 l ∙ made .each k l ∙ rw (y-is, vector-long)
           (ap (λ n. n % modulus) (sum-cong (G .columns) _ (λ j. leastResidue modulus (entryB G t k j) * challengeAt G x τ j)
           (λ j m. rw (values-B (ready .list .passed) b-is .1 k j l m, entries j m)))
           ∙ sym (residue-dot modulus modulus-positive (G .columns) (entryB G t k) (challengeAt G x τ)))
@@ -206,21 +219,18 @@ module _ {G : Setting} {t x : List ℕ} {τ products : ℕ} (ready : VectorReady
         pub rows-ready : RowsReady G a w shift y (take (G .inner) u) (products + G .inner * G .columns)
         rows-ready =
             let passed = ready .list .passed in
-            let each : vectorProducts G ≤ mostInner * mostColumns + mostRows * mostColumns + mostRows * mostInner = omega (arith, passed .counts) in
-            let all : G .vectors * vectorProducts G ≤ mostVectors * (mostInner * mostColumns + mostRows * mostColumns + mostRows * mostInner) =
-            mul-le-mul (passed .counts .sizes .vectors .1) each in
             rw y-is (
             record {
               bound-below = omega (arith, passed .numbers .bound, modulus-above);
               shift-below = omega (arith, decoded .shift-is, lift-small (passed .numbers) (passed .fitted));
-              size-x = long;
+              size-x = vector-long;
               size-u = product-long;
               vector-x = vector;
               vector-u = product-vector;
               long-A = decoded .entries .long;
               long-claims = decoded .claims .long;
               small = decoded .entries .small;
-              few = omega (arith, ready .made, row-inside (vectorProducts G) (ready .within));
+              few = omega (arith, ready .few);
             })
 
         pub vector-answered : {r : Answer} → r ≡ rowsAnswer G a w shift y (take (G .inner) u) τ (products + G .inner * G .columns)
@@ -229,7 +239,7 @@ module _ {G : Setting} {t x : List ℕ} {τ products : ℕ} (ready : VectorReady
         vector-answered {r} e =
             (rw y-is at e)
             ∙ scan-cong (G .rows) _ (balanced G t x τ) _ _
-            (λ i l. agrees-balanced (ready .list .passed) decoded x τ v (take (G .inner) u) long product-long entries product-made l)
+            (λ i l. agrees-balanced (ready .list .passed) decoded x τ v (take (G .inner) u) vector-long product-long entries product-made l)
             ∙ scan-by-first (G .rows) (balanced G t x τ) _ _
             ∙ rw (ready .made, counted)
           where

@@ -1,0 +1,59 @@
+-- The loop keeps: the first k numbers of u are rows of the matrix times the vector.
+use Prim.Native.Nat.{_-_, _≤_}
+use native.Mathlib.Omega.{arith}
+use mathlib.Core.Path.{_≡_}
+use lib.ListN.{length}
+use Rattle.algebra.specs.Laws.Fills.{filled-none, filled-more}
+use Rattle.algebra.specs.Laws.Positions.{row-inside}
+use Rattle.challenge.specs.Laws.Products.{Product, records-ready}
+use Rattle.challenge.proofs.products.product.Statement.{statement}
+use Rattle.challenge.proofs.products.product.Tie as tie
+
+abbrev Inv-loop : tie.InvT-loop
+Inv-loop matrix rows vector u₀ k₀ u k = (k ≤ rows) × Product matrix k vector u
+
+abbrev μ-loop : tie.MeasureT-loop
+μ-loop matrix rows vector u₀ k₀ u k = rows - k
+
+abbrev start : tie.At-loop Inv-loop μ-loop → tie.Start Inv-loop μ-loop
+start c = c .before .before .before
+
+loop-holds : tie.Need-loop-holds Inv-loop μ-loop
+loop-holds c = (omega arith, filled-none)
+
+mul-start : tie.Need-mul-start Inv-loop μ-loop
+mul-start c =
+    let at = start (c .before) in
+    omega (arith, row-inside (length (at .args .vector .now)) (c .loop-test .taken), at .pre .long)
+
+dot-records-requires : tie.Need-dot-records-requires Inv-loop μ-loop
+dot-records-requires c κs = records-ready (start (c .before) .pre) (c .loop-test .taken)
+
+cast-u : tie.Need-cast-u Inv-loop μ-loop
+cast-u c = omega arith
+
+mul-u : tie.Need-mul-u Inv-loop μ-loop
+mul-u c = omega arith
+
+array-write-u : tie.Need-array-write-u Inv-loop μ-loop
+array-write-u c = omega arith
+
+add-k : tie.Need-add-k Inv-loop μ-loop
+add-k c = omega arith
+
+loop-less : tie.Need-loop-less Inv-loop μ-loop
+loop-less c = omega arith
+
+loop-again : tie.Need-loop-again Inv-loop μ-loop
+loop-again c = (omega arith, filled-more (omega (arith, start (c .before .before) .pre .few)) (c .before .before .loop .inv .1) (c .dot-records .ensures))
+
+returns : tie.Need-returns Inv-loop μ-loop
+returns c =
+    let all : c .before .loop .k ≡ start (c .before) .args .rows = omega arith in
+    rw all at (c .before .loop .inv .1)
+
+pub product-spec : {M : Type 1} → statement M
+product-spec =
+    tie.close
+    (tie.spec Inv-loop μ-loop loop-holds mul-start dot-records-requires cast-u mul-u array-write-u add-k loop-less loop-again
+    returns)

@@ -1,0 +1,53 @@
+-- The loop keeps: the first j numbers of the list are those of the vector.
+use Prim.Native.Nat.{_-_, _≤_}
+use native.Mathlib.Omega.{arith}
+use mathlib.Core.Path.{_≡_, refl}
+use lib.ListN.{length, getD, replicate}
+use Rattle.algebra.specs.Laws.Fills.{Filled, filled-none, filled-more}
+use Rattle.ticket.specs.Rules.{mostColumns}
+use Rattle.challenge.proofs.products.widened.Statement.{statement}
+use Rattle.challenge.proofs.products.widened.Tie as tie
+
+abbrev Inv-loop : tie.InvT-loop
+Inv-loop vector list₀ j₀ list j = (j ≤ length vector) × Filled 0 (replicate mostColumns 0) j (λ i. getD vector i 0) list
+
+abbrev μ-loop : tie.MeasureT-loop
+μ-loop vector list₀ j₀ list j = length vector - j
+
+loop-holds : tie.Need-loop-holds Inv-loop μ-loop
+loop-holds c = (omega arith, filled-none)
+
+mul-list : tie.Need-mul-list Inv-loop μ-loop
+mul-list c = omega arith
+
+shared-slice-read-list : tie.Need-shared-slice-read-list Inv-loop μ-loop
+shared-slice-read-list c = omega arith
+
+cast-list : tie.Need-cast-list Inv-loop μ-loop
+cast-list c = omega (arith, c .shared-slice-known .given (c .before .before .loop .j))
+
+mul-list-2 : tie.Need-mul-list-2 Inv-loop μ-loop
+mul-list-2 c = omega arith
+
+array-write-list : tie.Need-array-write-list Inv-loop μ-loop
+array-write-list c = omega arith
+
+add-j : tie.Need-add-j Inv-loop μ-loop
+add-j c = omega arith
+
+loop-less : tie.Need-loop-less Inv-loop μ-loop
+loop-less c = omega arith
+
+loop-again : tie.Need-loop-again Inv-loop μ-loop
+loop-again c = (omega arith, filled-more (omega arith) (c .before .before .loop .inv .1) refl)
+
+returns : tie.Need-returns Inv-loop μ-loop
+returns c =
+    let all : c .before .loop .j ≡ length (c .before .before .args .vector .now) = omega arith in
+    rw all at (c .before .loop .inv .1)
+
+pub widened-spec : {M : Type 1} → statement M
+widened-spec =
+    tie.close
+    (tie.spec Inv-loop μ-loop loop-holds mul-list shared-slice-read-list cast-list mul-list-2 array-write-list add-j loop-less
+    loop-again returns)
