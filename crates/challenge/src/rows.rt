@@ -3,9 +3,9 @@ ghost use mathlib.Core.Path.{_≡_};
 ghost use Prim.Native.Nat.{_+_, _*_, _≤_};
 ghost use lib.ListN.{length};
 ghost use Rattle.algebra.specs.Laws.Fills.{lineAt};
-ghost use Rattle.ticket.specs.Laws.Runs.{step-answer};
+ghost use Rattle.ticket.specs.Laws.Runs.{step-answer, steps-answer};
 ghost use Rattle.challenge.specs.Rules.{verdict};
-ghost use Rattle.challenge.specs.Laws.Rows.{rowAnswer, rowsAnswer, RowsReady, SidesReady};
+ghost use Rattle.challenge.specs.Laws.Rows.{rowAnswer, rowSteps, RowsReady, SidesReady};
 ghost use Rattle.challenge.specs.Laws.Vectors.{vectorSteps, Decoded, DecodeReady, ListReady, VectorReady};
 use crate::products::dot;
 use crate::products::offset;
@@ -124,7 +124,7 @@ fn check_rows(
     products: u32,
 ) -> Answer
     requires { ⌜ RowsReady setting (now a) (now w) lift (now x) (now u) products ⌝ }
-    ensures { λ r. ⌜ r ≡ rowsAnswer setting (now (a .entry)) (now (w .entry)) lift (now (x .entry)) (now (u .entry)) t products ⌝ }
+    ensures { λ r. ⌜ r ≡ steps-answer (rowSteps setting (now (a .entry)) (now (w .entry)) lift (now (x .entry)) (now (u .entry)) t products) ⌝ }
 {
     let inner = setting.inner as usize;
     let columns = setting.columns as usize;

@@ -5,9 +5,6 @@ use Rattle.challenge.specs.Laws.Checks.{check-ticket, check-list, check-
 use Rattle.challenge.proofs.check.Statement.{statement}
 use Rattle.challenge.proofs.check.Tie as tie
 
-read-requires : tie.Need-read-requires
-read-requires c κs = search needs
-
 returns : tie.Need-returns
 returns c = check-ticket _ _ _ (c .before .before .read .ensures) (c .if1 .taken)
 
@@ -33,4 +30,4 @@ returns-3 c =
 pub check-spec : {M : Type 1} → statement M
 check-spec =
     tie.close
-    (tie.spec read-requires returns read-list-requires returns-2 check-list-requires returns-3)
+    (tie.spec (λ c κs. search needs) returns read-list-requires returns-2 check-list-requires returns-3)

@@ -6,10 +6,11 @@
 --   dotWith o l x     o plus the sum of the products of the numbers of l and x, modulo p
 --   side-made         with the shift taken off, that is the sum of the integers that l holds shifted, times x, modulo p
 --   ResidueVector x   x has no more numbers than a row of a matrix, and they are least residues
---   offset-made       an offset as the code makes it
---   offset-small      it is below 2^62
+--   offset-small      an offset is below 2^62
 --   Reached o f n s   s is o plus the sum of the first n values of f
 --   reached-none, reached-more, reached-all   no value is added yet, one more, and all
+--   reduced           the least residue of a number by another form of that
+--   offset-made       an offset as the code makes it
 --   total-fits        the sum of a vector fits 64 bits
 --   term-fits, term-more   so does its product with a 32-bit number, and one such product more is added in two words
 --   RecordsReady b a x   the records of b from a on can be multiplied with x
@@ -85,12 +86,14 @@ reached-all offset f n {k} reached l m =
     let same : k ≡ n = omega arith in
     reached ∙ ap (λ i. offset + sum i f) same
 
+pub reduced : {r s t : ℕ} → r ≡ leastResidue modulus (pos s) → s ≡ t → r ≡ t % modulus
+reduced {s = s} e same = e ∙ residue-of-natural modulus modulus-positive s ∙ ap (λ n. n % modulus) same
+
 pub offset-made : (shift n : ℕ) (x : ℕ → ℕ) {p k total r : ℕ} → p ≡ modulus → Reached 0 x k total → k ≤ n → n ≤ k
     → r ≡ leastResidue modulus (pos total) → (p - shift) * r ≡ taken-off modulus shift n x
 unfolding taken-off
-offset-made shift n x {p} {k} {total} {r} p-is reached l m e =
-    ap (λ q. (q - shift) * r) p-is
-    ∙ ap (λ q. (modulus - shift) * q) (e ∙ residue-of-natural modulus modulus-positive total ∙ ap (λ q. q % modulus) (reached-all 0 x n reached l m ∙ omega arith))
+offset-made shift n x {r = r} p-is reached l m e =
+    ap (λ q. (q - shift) * r) p-is ∙ ap (λ q. (modulus - shift) * q) (reduced e (reached-all 0 x n reached l m ∙ omega arith))
 
 -- sums of products in two words, of 64 bits, and in one
 

@@ -5,8 +5,7 @@
 --   rowAnswer m n a w x u τ i q   the answer of row i for vector number τ after q products, by these two sides
 --   row-caught, row-balanced   that answer, as the code makes it
 --   rowAgrees G a w s x u i   row i of w times x, with the shift s taken off, is row i of a times u, with the bound taken off
---   rowSteps G f τ q          the rows one after the other, after q products, where f says which hold
---   rowsAnswer G a w s x u τ q   their answer by these tests
+--   rowSteps G a w s x u τ q   the rows one after the other, for vector number τ after q products
 --   RowsReady G a w s x u q   the rows can be worked through after q products
 --   SidesReady a w x u o q    so can one row
 --   line-inside               a row is within its list
@@ -26,7 +25,7 @@ use Rattle.algebra.specs.Laws.Positions.{row-inside}
 use Rattle.ticket.specs.declared.setting.Setting.{Setting}
 use Rattle.ticket.specs.declared.Answer.{Answer}
 use Rattle.ticket.specs.Rules.{unless, answer}
-use Rattle.ticket.specs.Laws.Runs.{Steps, steps-answer, step-answer, RunTo}
+use Rattle.ticket.specs.Laws.Runs.{Steps, step-answer, RunTo}
 use Rattle.challenge.specs.Laws.Products.{dotWith, offsetOf, offset-small, ResidueVector, DotReady, NarrowReady}
 
 abbrev pub sidesEqual : ℕ → ℕ → List ℕ → List ℕ → List ℕ → List ℕ → Bool
@@ -49,19 +48,16 @@ abbrev pub rowAgrees : Setting → List ℕ → List ℕ → ℕ → List ℕ �
 rowAgrees G a w shift x u i =
     sidesEqual (offsetOf shift x) (offsetOf (G .bound) u) (lineAt a (G .inner) i) (lineAt w (G .columns) i) x u
 
-abbrev pub rowSteps : Setting → (ℕ → Bool) → ℕ → ℕ → Steps
-rowSteps G test τ products =
+abbrev pub rowSteps : Setting → List ℕ → List ℕ → ℕ → List ℕ → List ℕ → ℕ → ℕ → Steps
+rowSteps G a w shift x u τ products =
     record {
       count = G .rows;
-      holds = test;
+      holds = rowAgrees G a w shift x u;
       failed = λ i. answer 12 τ i (products + (i + 1) * (G .columns + G .inner));
       so-far = λ i. answer 0 0 0 (products + i * (G .columns + G .inner));
       other = λ i e. omega arith;
       passed = λ i. refl;
     }
-
-abbrev pub rowsAnswer : Setting → List ℕ → List ℕ → ℕ → List ℕ → List ℕ → ℕ → ℕ → Answer
-rowsAnswer G a w shift x u τ products = steps-answer (rowSteps G (rowAgrees G a w shift x u) τ products)
 
 pub record RowsReady (G : Setting) (a w : List ℕ) (shift : ℕ) (x u : List ℕ) (products : ℕ) : Type 0 where
   pub bound-below : G .bound ≤ modulus
@@ -85,7 +81,7 @@ pub line-inside : {rows i long : ℕ} (n : ℕ) → i < rows → rows * n ≤ lo
 line-inside n l h = omega (arith, row-inside n l)
 
 module _ {G : Setting} {a w : List ℕ} {shift : ℕ} {x u : List ℕ} {products : ℕ} (ready : RowsReady G a w shift x u products)
-    {τ i : ℕ} {b : Answer} (run : RunTo (rowSteps G (rowAgrees G a w shift x u) τ products) i b) (l : i < G .rows)
+    {τ i : ℕ} {b : Answer} (run : RunTo (rowSteps G a w shift x u τ products) i b) (l : i < G .rows)
     {left right : ℕ} (left-is : left ≡ offsetOf shift x) (right-is : right ≡ offsetOf (G .bound) u)
     {r s : List ℕ} (r-is : r ≡ lineAt a (G .inner) i) (s-is : s ≡ lineAt w (G .columns) i) where
   -- the products of one row more
@@ -117,5 +113,5 @@ module _ {G : Setting} {a w : List ℕ} {shift : ℕ} {x u : List ℕ} {products
       })
 
   pub row-step : {c : Answer} → c ≡ rowAnswer left right r s x u τ i (b .products)
-      → c ≡ step-answer (rowSteps G (rowAgrees G a w shift x u) τ products) i
+      → c ≡ step-answer (rowSteps G a w shift x u τ products) i
   row-step e = e ∙ rw (left-is, right-is, r-is, s-is, counted)

@@ -42,7 +42,7 @@ use Rattle.ticket.specs.Laws.Scans.{scan-cong, scan-by-first}
 use Rattle.challenge.specs.Rules.{challengeAt, balanced, claimSide, operandSide, productB, firstRow, vectorProducts, caught, verdict}
 use Rattle.challenge.specs.Laws.Lists.{ListEntries}
 use Rattle.challenge.specs.Laws.Products.{ResidueVector, ProductReady, Product, Widened, dotOf, dotWith, offsetOf, side-made}
-use Rattle.challenge.specs.Laws.Rows.{RowsReady, rowAgrees, rowSteps, rowsAnswer, line-inside}
+use Rattle.challenge.specs.Laws.Rows.{RowsReady, rowAgrees, rowSteps, line-inside}
 
 pub record Decoded (G : Setting) (t a w : List ℕ) (shift : ℕ) : Type 0 where
   pub entries : ShiftedEntries G t a
@@ -233,7 +233,7 @@ module _ {G : Setting} {t x : List ℕ} {τ products : ℕ} (ready : VectorReady
               few = omega (arith, ready .few);
             })
 
-        pub vector-answered : {r : Answer} → r ≡ rowsAnswer G a w shift y (take (G .inner) u) τ (products + G .inner * G .columns)
+        pub vector-answered : {r : Answer} → r ≡ steps-answer (rowSteps G a w shift y (take (G .inner) u) τ (products + G .inner * G .columns))
             → r ≡ step-answer (vectorSteps G t x) τ
         unfolding firstRow
         vector-answered {r} e =

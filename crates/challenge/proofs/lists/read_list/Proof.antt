@@ -17,29 +17,11 @@ Inv-loop list count k₀ k = (k ≤ count) × ((i : ℕ) → i < k → getD list
 abbrev μ-loop : tie.MeasureT-loop
 μ-loop list count k₀ k = count - k
 
-mul-count : tie.Need-mul-count Inv-loop μ-loop
-mul-count c = omega arith
-
-cast-if1 : tie.Need-cast-if1 Inv-loop μ-loop
-cast-if1 c = omega arith
-
 returns : tie.Need-returns Inv-loop μ-loop
 returns c = sym (other-length _ _ (c .if1 .taken))
 
 loop-holds : tie.Need-loop-holds Inv-loop μ-loop
 loop-holds c = (omega arith, λ i l. omega arith)
-
-cast-t9 : tie.Need-cast-t9 Inv-loop μ-loop
-cast-t9 c = omega arith
-
-mul-t10 : tie.Need-mul-t10 Inv-loop μ-loop
-mul-t10 c = omega arith
-
-shared-slice-read-t12 : tie.Need-shared-slice-read-t12 Inv-loop μ-loop
-shared-slice-read-t12 c = omega arith
-
-is-least-requires : tie.Need-is-least-requires Inv-loop μ-loop
-is-least-requires c κs = search needs
 
 returns-2 : tie.Need-returns-2 Inv-loop μ-loop
 returns-2 c =
@@ -47,16 +29,10 @@ returns-2 c =
     let large = ltb-false _ _ (sym (c .before .is-least .ensures) ∙ not-true _ (c .if2 .taken)) in
     sym (first-large _ _ (at .before .if1 .left) _ (c .before .before .before .loop-test .taken) (at .loop .inv .1) large)
 
-add-k : tie.Need-add-k Inv-loop μ-loop
-add-k c = omega arith
-
-loop-less : tie.Need-loop-less Inv-loop μ-loop
-loop-less c = omega arith
-
 loop-again : tie.Need-loop-again Inv-loop μ-loop
 loop-again c =
-    let least = ltb-true _ _ (sym (c .before .is-least .ensures) ∙ not-false _ (c .if2 .left)) in
-    (omega arith, below-more _ _ (c .before .before .before .before .loop .inv .1) least)
+    let at = c .before .before .before .before in
+    (omega arith, below-more _ _ (at .loop .inv .1) (ltb-true _ _ (sym (c .before .is-least .ensures) ∙ not-false _ (c .if2 .left))))
 
 returns-3 : tie.Need-returns-3 Inv-loop μ-loop
 returns-3 c = sym (all-least _ _ (c .before .before .if1 .left) (λ i l. c .before .loop .inv .1 i (omega arith)))
@@ -64,5 +40,5 @@ returns-3 c = sym (all-least _ _ (c .before .before .if1 .left) (λ i l. c .befo
 pub read-list-spec : {M : Type 1} → statement M
 read-list-spec =
     tie.close
-    (tie.spec Inv-loop μ-loop mul-count cast-if1 returns loop-holds cast-t9 mul-t10 shared-slice-read-t12 is-least-requires
-    returns-2 add-k loop-less loop-again returns-3)
+    (tie.spec Inv-loop μ-loop (λ c. omega arith) (λ c. omega arith) returns loop-holds (λ c. omega arith) (λ c. omega arith)
+    (λ c. omega arith) (λ c κs. search needs) returns-2 (λ c. omega arith) (λ c. omega arith) loop-again returns-3)

@@ -29,21 +29,6 @@ mul-start c =
 dot-records-requires : tie.Need-dot-records-requires Inv-loop μ-loop
 dot-records-requires c κs = records-ready (start (c .before) .pre) (c .loop-test .taken)
 
-cast-u : tie.Need-cast-u Inv-loop μ-loop
-cast-u c = omega arith
-
-mul-u : tie.Need-mul-u Inv-loop μ-loop
-mul-u c = omega arith
-
-array-write-u : tie.Need-array-write-u Inv-loop μ-loop
-array-write-u c = omega arith
-
-add-k : tie.Need-add-k Inv-loop μ-loop
-add-k c = omega arith
-
-loop-less : tie.Need-loop-less Inv-loop μ-loop
-loop-less c = omega arith
-
 loop-again : tie.Need-loop-again Inv-loop μ-loop
 loop-again c = (omega arith, filled-more (omega (arith, start (c .before .before) .pre .few)) (c .before .before .loop .inv .1) (c .dot-records .ensures))
 
@@ -55,5 +40,5 @@ returns c =
 pub product-spec : {M : Type 1} → statement M
 product-spec =
     tie.close
-    (tie.spec Inv-loop μ-loop loop-holds mul-start dot-records-requires cast-u mul-u array-write-u add-k loop-less loop-again
-    returns)
+    (tie.spec Inv-loop μ-loop loop-holds mul-start dot-records-requires (λ c. omega arith) (λ c. omega arith) (λ c. omega arith)
+    (λ c. omega arith) (λ c. omega arith) loop-again returns)

@@ -1,15 +1,11 @@
 -- The loop keeps: the two words hold the sum of the first c products.
-use Prim.Native.Nat.{ℕ, _+_, _-_, _*_, _%_, _^_, _≤_, _<_}
+use Prim.Native.Nat.{_-_, _*_, _^_, _≤_, _<_}
 use native.Mathlib.Omega.{arith}
-use native.Mathlib.Nat.{add-comm}
 use borrow.Author.Needs.{needs}
-use mathlib.Core.Path.{_≡_, refl, ap, _∙_}
+use mathlib.Core.Path.{_≡_, refl}
 use lib.ListN.{length, getD}
-use Rattle.residue.specs.Rules.{modulus, sum}
-use Rattle.residue.specs.Laws.Modulus.{modulus-positive}
 use Rattle.residue.specs.Laws.Products.{Holds, holds-none, holds-with}
-use Rattle.residue.specs.Laws.Residues.{residue-of-natural}
-use Rattle.challenge.specs.Laws.Products.{dotWith, term-fits, term-more}
+use Rattle.challenge.specs.Laws.Products.{dotWith, reduced, term-fits, term-more}
 use Rattle.challenge.proofs.products.wide_dot.Statement.{statement}
 use Rattle.challenge.proofs.products.wide_dot.Tie as tie
 
@@ -22,69 +18,36 @@ abbrev μ-loop : tie.MeasureT-loop
 abbrev start : tie.At-loop Inv-loop μ-loop → tie.Start Inv-loop μ-loop
 start c = c .before .before .before .before
 
-new-requires : tie.Need-new-requires Inv-loop μ-loop
-new-requires c κs = search needs
+abbrev at : tie.After-add Inv-loop μ-loop → tie.At-loop Inv-loop μ-loop
+at c = c .before .before .before .before
+
+small : (c : tie.After-shared-slice-known3 Inv-loop μ-loop) → let at = c .before .before in
+    getD (start at .args .list .now) (at .loop .c) 0 < 2 ^ 32
+small c = omega (arith, c .shared-slice-known3 .given (c .before .before .loop .c))
 
 loop-holds : tie.Need-loop-holds Inv-loop μ-loop
 loop-holds c = (omega arith, holds-none _ (c .new .ensures))
 
-mul-add : tie.Need-mul-add Inv-loop μ-loop
-mul-add c = omega arith
-
-shared-slice-read-add : tie.Need-shared-slice-read-add Inv-loop μ-loop
-shared-slice-read-add c = omega (arith, start (c .before .before) .pre .long)
-
-cast-add : tie.Need-cast-add Inv-loop μ-loop
-cast-add c = omega (arith, c .shared-slice-known3 .given (c .before .before .loop .c))
-
-mul-add-2 : tie.Need-mul-add-2 Inv-loop μ-loop
-mul-add-2 c = omega arith
-
-shared-slice-read-add-2 : tie.Need-shared-slice-read-add-2 Inv-loop μ-loop
-shared-slice-read-add-2 c = omega arith
-
 mul-add-3 : tie.Need-mul-add-3 Inv-loop μ-loop
-mul-add-3 c =
-    record {
-      fits = term-fits (start (c .before .before .before) .pre .vector) (c .before .before .loop-test .taken)
-          (omega (arith, c .before .shared-slice-known3 .given (c .before .before .before .loop .c)));
-    }
-
-add-requires : tie.Need-add-requires Inv-loop μ-loop
-add-requires c κs = search needs
-
-add-c : tie.Need-add-c Inv-loop μ-loop
-add-c c = omega arith
-
-loop-less : tie.Need-loop-less Inv-loop μ-loop
-loop-less c = omega arith
+mul-add-3 c = record { fits = term-fits (start (c .before .before .before) .pre .vector) (c .before .before .loop-test .taken) (small (c .before)) }
 
 loop-again : tie.Need-loop-again Inv-loop μ-loop
 loop-again c =
-    let at = c .before .before .before .before in
-    let small : getD (start at .args .list .now) (at .loop .c) 0 < 2 ^ 32 = omega (arith, c .before .before .shared-slice-known3 .given (at .loop .c)) in
-    (omega arith, term-more (start at .pre .vector) (c .before .before .before .loop-test .taken) small refl (at .loop .inv .1) (c .add .ensures))
-
-add-requires-2 : tie.Need-add-requires-2 Inv-loop μ-loop
-add-requires-2 c κs = search needs
-
-residue-requires : tie.Need-residue-requires Inv-loop μ-loop
-residue-requires c κs = search needs
+    let vector = start (at c) .pre .vector in
+    (omega arith, term-more vector (c .before .before .before .loop-test .taken) (small (c .before .before)) refl (at c .loop .inv .1) (c .add .ensures))
 
 returns : tie.Need-returns Inv-loop μ-loop
 unfolding dotWith
 returns c =
     let at = c .before .before .before in
-    let f : ℕ → ℕ = λ i. getD (start at .args .list .now) i 0 * getD (start at .args .vector .now) i 0 in
-    let fits : start at .args .offset < 2 ^ 64 = omega arith in
     let all : at .loop .c ≡ length (start at .args .vector .now) = omega arith in
-    c .residue .ensures ∙ residue-of-natural modulus modulus-positive _
-    ∙ ap (λ n. n % modulus)
-    (holds-with (omega (arith, start at .pre .vector .short)) fits (at .loop .inv .1) (c .before .add2 .ensures) ∙ add-comm _ _
-    ∙ ap (λ n. start at .args .offset + sum n f) all)
+    let sum = holds-with (omega (arith, start at .pre .vector .short)) (omega arith) (at .loop .inv .1) (c .before .add2 .ensures) in
+    reduced (c .residue .ensures) (omega (arith, rw all at sum))
 
 pub wide-dot-spec : {M : Type 1} → statement M
 wide-dot-spec =
     tie.close
-    (tie.spec Inv-loop μ-loop new-requires loop-holds mul-add shared-slice-read-add cast-add mul-add-2 shared-slice-read-add-2
-    mul-add-3 add-requires add-c loop-less loop-again add-requires-2 residue-requires returns)
+    (tie.spec Inv-loop μ-loop (λ c κs. search needs) loop-holds (λ c. omega arith)
+    (λ c. omega (arith, start (c .before .before) .pre .long)) (λ c. omega (arith, small c)) (λ c. omega arith) (λ c. omega arith)
+    mul-add-3 (λ c κs. search needs) (λ c. omega arith) (λ c. omega arith) loop-again (λ c κs. search needs) (λ c κs. search needs)
+    returns)

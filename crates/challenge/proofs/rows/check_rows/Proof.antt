@@ -5,12 +5,12 @@ use borrow.Author.Needs.{needs}
 use mathlib.Core.Path.{_≡_, ap}
 use Rattle.ticket.specs.Rules.{answer}
 use Rattle.ticket.specs.Laws.Runs.{step-answer, RunTo, run-none, run-next, run-stopped, run-ended}
-use Rattle.challenge.specs.Laws.Rows.{rowAgrees, rowSteps, line-inside, row-ready, row-step}
+use Rattle.challenge.specs.Laws.Rows.{rowSteps, line-inside, row-ready, row-step}
 use Rattle.challenge.proofs.rows.check_rows.Statement.{statement}
 use Rattle.challenge.proofs.rows.check_rows.Tie as tie
 
 abbrev Inv-loop : tie.InvT-loop
-Inv-loop setting a w lift x u t products inner columns left right answer₀ row₀ answer row = RunTo (rowSteps setting (rowAgrees setting a w lift x u) t products) row answer
+Inv-loop setting a w lift x u t products inner columns left right answer₀ row₀ answer row = RunTo (rowSteps setting a w lift x u t products) row answer
 
 abbrev μ-loop : tie.MeasureT-loop
 μ-loop setting a w lift x u t products inner columns left right answer₀ row₀ answer row = setting .rows - row
@@ -18,26 +18,20 @@ abbrev μ-loop : tie.MeasureT-loop
 abbrev start : tie.At-loop Inv-loop μ-loop → tie.Start Inv-loop μ-loop
 start c = c .before .before .before .before .before .before .before .before .before .before
 
-step : (c : tie.After-check-row Inv-loop μ-loop) → let at = c .before .before .before .before .before in let of = start at .args in
-    c .check-row .result ≡ step-answer (rowSteps (of .setting) (rowAgrees (of .setting) (of .a .now) (of .w .now) (of .lift) (of .x .now) (of .u .now)) (of .t) (of .products)) (at .loop .row)
+abbrev at : tie.After-check-row Inv-loop μ-loop → tie.At-loop Inv-loop μ-loop
+at c = c .before .before .before .before .before
+
+step : (c : tie.After-check-row Inv-loop μ-loop) → let of = start (at c) .args in
+    c .check-row .result
+    ≡ step-answer (rowSteps (of .setting) (of .a .now) (of .w .now) (of .lift) (of .x .now) (of .u .now) (of .t) (of .products)) (at c .loop .row)
 step c =
-    let at = c .before .before .before .before .before in
-    row-step (start at .pre) (at .loop .inv) (c .before .before .before .if1 .taken) (at .before .before .before .offset .ensures)
-    (at .before .offset2 .ensures) (c .before .before .line .ensures) (c .before .line2 .ensures) (c .check-row .ensures)
-
-cast-inner : tie.Need-cast-inner Inv-loop μ-loop
-cast-inner c = omega arith
-
-cast-columns : tie.Need-cast-columns Inv-loop μ-loop
-cast-columns c = omega arith
+    row-step (start (at c) .pre) (at c .loop .inv) (c .before .before .before .if1 .taken) (at c .before .before .before .offset .ensures)
+    (at c .before .offset2 .ensures) (c .before .before .line .ensures) (c .before .line2 .ensures) (c .check-row .ensures)
 
 offset-requires : tie.Need-offset-requires Inv-loop μ-loop
 offset-requires c κs =
     let pre = c .before .before .before .before .before .before .pre in
     (pre .vector-x, pre .shift-below)
-
-cast-offset : tie.Need-cast-offset Inv-loop μ-loop
-cast-offset c = omega arith
 
 offset-requires-2 : tie.Need-offset-requires-2 Inv-loop μ-loop
 offset-requires-2 c κs =
@@ -48,14 +42,10 @@ loop-holds : tie.Need-loop-holds Inv-loop μ-loop
 loop-holds c = run-none (ap (answer 0 0 0) (omega arith))
 
 line-requires : tie.Need-line-requires Inv-loop μ-loop
-line-requires c κs =
-    let at = c .before .before in
-    line-inside (start at .args .setting .inner) (c .if1 .taken) (start at .pre .long-A)
+line-requires c κs = line-inside _ (c .if1 .taken) (start (c .before .before) .pre .long-A)
 
 line-requires-2 : tie.Need-line-requires-2 Inv-loop μ-loop
-line-requires-2 c κs =
-    let at = c .before .before .before in
-    line-inside (start at .args .setting .columns) (c .before .if1 .taken) (start at .pre .long-claims)
+line-requires-2 c κs = line-inside _ (c .before .if1 .taken) (start (c .before .before .before) .pre .long-claims)
 
 check-row-requires : tie.Need-check-row-requires Inv-loop μ-loop
 check-row-requires c κs =
@@ -64,22 +54,18 @@ check-row-requires c κs =
     (at .before .offset2 .ensures) (c .before .line .ensures) (c .line2 .ensures)
 
 returns : tie.Need-returns Inv-loop μ-loop
-returns c = run-stopped (c .before .before .before .before .before .before .before .loop .inv) (c .before .before .before .before .before .if1 .taken) (step (c .before .before)) (c .if2 .taken)
-
-add-row : tie.Need-add-row Inv-loop μ-loop
-add-row c = omega arith
-
-loop-less : tie.Need-loop-less Inv-loop μ-loop
-loop-less c = omega arith
+returns c =
+    let checked = c .before .before in
+    run-stopped (at checked .loop .inv) (checked .before .before .before .if1 .taken) (step checked) (c .if2 .taken)
 
 loop-again : tie.Need-loop-again Inv-loop μ-loop
-loop-again c = run-next (c .before .before .before .before .before .before .before .loop .inv) (c .before .before .before .before .before .if1 .taken) (step (c .before .before)) (c .if2 .left)
-
-returns-2 : tie.Need-returns-2 Inv-loop μ-loop
-returns-2 c = run-ended (c .before .before .loop .inv) (c .if1 .left)
+loop-again c =
+    let checked = c .before .before in
+    run-next (at checked .loop .inv) (checked .before .before .before .if1 .taken) (step checked) (c .if2 .left)
 
 pub check-rows-spec : {M : Type 1} → statement M
 check-rows-spec =
     tie.close
-    (tie.spec Inv-loop μ-loop cast-inner cast-columns offset-requires cast-offset offset-requires-2 loop-holds line-requires
-    line-requires-2 check-row-requires returns add-row loop-less loop-again returns-2)
+    (tie.spec Inv-loop μ-loop (λ c. omega arith) (λ c. omega arith) offset-requires (λ c. omega arith) offset-requires-2 loop-holds
+    line-requires line-requires-2 check-row-requires returns (λ c. omega arith) (λ c. omega arith) loop-again
+    (λ c. run-ended (c .before .before .loop .inv) (c .if1 .left)))

@@ -18,12 +18,6 @@ vector : (c : tie.After-widened) → let of = start (c .before) .args in
     take (of .setting .columns) (c .widened .result) ≡ lineAt (of .list .now) (of .setting .columns) (of .t)
 vector c = widened-same (start (c .before) .pre .0) (c .before .line .ensures) (c .widened .ensures)
 
-cast-inner : tie.Need-cast-inner
-cast-inner c = search needs
-
-cast-columns : tie.Need-cast-columns
-cast-columns c = search needs
-
 line-requires : tie.Need-line-requires
 line-requires c κs = vector-inside (c .before .before .before .before .before .before .pre .0)
 
@@ -35,9 +29,6 @@ array-share-prefix-wide c = omega (arith, c .widened .ensures .long, start (c .b
 
 slice-aggregate-x : tie.Need-slice-aggregate-x
 slice-aggregate-x c = sym (ap length (vector (c .before)) ∙ vector-long (start (c .before .before) .pre .0))
-
-part-requires : tie.Need-part-requires
-part-requires c κs = search needs
 
 product-requires : tie.Need-product-requires
 product-requires c κs = matrix-ready (start (c .before .before .before) .pre .0) (vector (c .before .before)) (c .part .ensures)
@@ -70,5 +61,6 @@ returns c =
 pub check-vector-spec : {M : Type 1} → statement M
 check-vector-spec =
     tie.close
-    (tie.spec cast-inner cast-columns line-requires widened-requires array-share-prefix-wide slice-aggregate-x part-requires
-    product-requires mul-made add-made array-share-prefix-u slice-aggregate-check-rows check-rows-requires returns)
+    (tie.spec (λ c. search needs) (λ c. search needs) line-requires widened-requires array-share-prefix-wide slice-aggregate-x
+    (λ c κs. search needs) product-requires mul-made add-made array-share-prefix-u slice-aggregate-check-rows check-rows-requires
+    returns)

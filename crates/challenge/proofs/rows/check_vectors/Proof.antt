@@ -27,19 +27,15 @@ check-vector-requires c κs =
 
 returns : tie.Need-returns Inv-loop μ-loop
 returns c =
-    let in-loop = c .before .before .before in
-    run-stopped (in-loop .before .before .loop .inv) (in-loop .if1 .taken) (c .before .before .check-vector .ensures) (c .if2 .taken) ∙ vectors-answer _ _ _
-
-add-t : tie.Need-add-t Inv-loop μ-loop
-add-t c = omega arith
-
-loop-less : tie.Need-loop-less Inv-loop μ-loop
-loop-less c = omega arith
+    let checked = c .before .before in
+    let in-loop = checked .before in
+    run-stopped (in-loop .before .before .loop .inv) (in-loop .if1 .taken) (checked .check-vector .ensures) (c .if2 .taken) ∙ vectors-answer _ _ _
 
 loop-again : tie.Need-loop-again Inv-loop μ-loop
 loop-again c =
-    let in-loop = c .before .before .before in
-    run-next (in-loop .before .before .loop .inv) (in-loop .if1 .taken) (c .before .before .check-vector .ensures) (c .if2 .left)
+    let checked = c .before .before in
+    let in-loop = checked .before in
+    run-next (in-loop .before .before .loop .inv) (in-loop .if1 .taken) (checked .check-vector .ensures) (c .if2 .left)
 
 returns-2 : tie.Need-returns-2 Inv-loop μ-loop
 returns-2 c = run-ended (c .before .before .loop .inv) (c .if1 .left) ∙ vectors-answer _ _ _
@@ -47,4 +43,4 @@ returns-2 c = run-ended (c .before .before .loop .inv) (c .if1 .left) ∙ vector
 pub check-vectors-spec : {M : Type 1} → statement M
 check-vectors-spec =
     tie.close
-    (tie.spec Inv-loop μ-loop loop-holds check-vector-requires returns add-t loop-less loop-again returns-2)
+    (tie.spec Inv-loop μ-loop loop-holds check-vector-requires returns (λ c. omega arith) (λ c. omega arith) loop-again returns-2)
