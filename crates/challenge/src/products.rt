@@ -3,35 +3,27 @@ ghost use mathlib.Core.Path.{_≡_};
 ghost use Prim.Native.Nat.{_≤_};
 ghost use lib.ListN.{length, getD};
 ghost use Rattle.residue.specs.Rules.{modulus};
-ghost use Rattle.ticket.specs.Rules.{mostColumns};
-ghost use Rattle.challenge.specs.Laws.Products.{dotOf, dotWith, offsetOf, DotReady, NarrowReady, Product, ProductReady, RecordsReady, ResidueVector, Widened};
+ghost use Rattle.algebra.specs.Laws.Fills.{Filled};
+ghost use Rattle.challenge.specs.Laws.Products.{dotOf, dotWith, offsetOf, rowsTimes, DotReady, NarrowReady, ProductReady, RecordsReady, ResidueVector};
 use residue::ProductSum;
 use residue::Residue;
 use ticket::RECORD;
-use ticket::Setting;
-
-// The most rows that a matrix has here: B has as many as A has columns.
-const ROWS: usize = Setting::MOST_INNER as usize;
-
-// The most numbers of a vector.
-const COLUMNS: usize = Setting::MOST_COLUMNS as usize;
 
 // 2^32. No number of a vector reaches it; a remainder by it tells the compiler so.
 const WORD: u64 = 4_294_967_296;
 
-// The first rows of the product of a matrix and a vector, which is as long as each of its rows. The matrix is a part of the ticket.
-pub(crate) fn product(matrix: &[u8], rows: usize, vector: &[u64]) -> [u64; ROWS]
-    requires { ⌜ ProductReady (now matrix) rows (now vector) ⌝ }
-    ensures { λ r. ⌜ Product (now (matrix .entry)) rows (now (vector .entry)) r ⌝ }
+// The first rows of the product of a matrix, a part of the ticket, and a vector that is as long as each of its rows: as many rows as the
+// list u has numbers.
+pub(crate) fn product(matrix: &[u8], vector: &[u64], u: &mut [u64])
+    requires { ⌜ ProductReady (now matrix) (length (now u)) (now vector) ⌝ }
+    ensures { λ r. ⌜ Filled 0 (now (u .entry)) (length (now (u .entry))) (rowsTimes (now (matrix .entry)) (now (vector .entry))) (now (u .exit)) ⌝ }
 {
-    let mut u = [0; ROWS];
     let mut k = 0;
-    while k < rows {
+    while k < u.len() {
         let start = k * vector.len();
         u[k] = dot_records(matrix, start, vector) as u64;
         k += 1;
     }
-    u
 }
 
 // The sum of the products of the values of the records from start on with the numbers of a vector, modulo p.
@@ -94,16 +86,14 @@ pub(crate) fn offset(vector: &[u64], shift: u64) -> u64
     negative * (Residue::reduce(sum).0 as u64)
 }
 
-// A vector in 64-bit numbers, as its products take them.
-pub(crate) fn widened(vector: &[u32]) -> [u64; COLUMNS]
-    requires { ⌜ length (now vector) ≤ mostColumns ⌝ }
-    ensures { λ r. ⌜ Widened (now (vector .entry)) r ⌝ }
+// A vector in 64-bit numbers, as its products take them, to a list.
+pub(crate) fn widen(vector: &[u32], list: &mut [u64])
+    requires { ⌜ length (now vector) ≤ length (now list) ⌝ }
+    ensures { λ r. ⌜ Filled 0 (now (list .entry)) (length (now (vector .entry))) (λ j. getD (now (vector .entry)) j 0) (now (list .exit)) ⌝ }
 {
-    let mut list = [0; COLUMNS];
     let mut j = 0;
     while j < vector.len() {
         list[j] = vector[j] as u64;
         j += 1;
     }
-    list
 }

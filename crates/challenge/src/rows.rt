@@ -6,12 +6,12 @@ ghost use Rattle.algebra.specs.Laws.Fills.{lineAt};
 ghost use Rattle.ticket.specs.Laws.Runs.{step-answer, steps-answer};
 ghost use Rattle.challenge.specs.Rules.{verdict};
 ghost use Rattle.challenge.specs.Laws.Rows.{rowAnswer, rowSteps, RowsReady, SidesReady};
-ghost use Rattle.challenge.specs.Laws.Vectors.{vectorSteps, Decoded, DecodeReady, ListReady, VectorReady};
+ghost use Rattle.challenge.specs.Laws.Vectors.{vectorSteps, Decoded, DecodeReady, ListReady, Room, VectorReady};
 use crate::products::dot;
 use crate::products::offset;
 use crate::products::product;
 use crate::products::wide_dot;
-use crate::products::widened;
+use crate::products::widen;
 use residue::Residue;
 use ticket::Answer;
 use ticket::PartNumber;
@@ -24,6 +24,11 @@ const SMALL_PART: usize = 64;
 const ENTRIES: usize = (Setting::MOST_ROWS * Setting::MOST_INNER) as usize;
 
 const CLAIMS: usize = (Setting::MOST_ROWS * Setting::MOST_COLUMNS) as usize;
+
+// The most numbers of a vector, and of its product with B.
+const COLUMNS: usize = Setting::MOST_COLUMNS as usize;
+
+const INNER: usize = Setting::MOST_INNER as usize;
 
 // All rows for all vectors of a list. For a small ticket the lists that it is decoded to are short, since clearing them takes time.
 pub(crate) fn check_list(setting: Setting, ticket: &[u8], list: &[u32]) -> Answer
@@ -60,25 +65,39 @@ fn check_decoded(
     let remainders = ticket::part(setting, ticket, PartNumber::REMAINDERS);
     ticket::shifted_entries(entries, Residue(setting.bound), a);
     ticket::lifted_claims(quotients, remainders, setting.half(), setting.scale, w);
-    check_vectors(setting, ticket, a, w, setting.lift(), list)
+    let columns = setting.columns as usize;
+    let inner = setting.inner as usize;
+    let mut x = [0; COLUMNS];
+    let mut u = [0; INNER];
+    check_vectors(
+        setting,
+        ticket,
+        list,
+        a,
+        w,
+        &mut x[..columns],
+        &mut u[..inner],
+    )
 }
 
-// All rows for all vectors, one after the other, up to the first row that is caught.
+// All rows for all vectors, one after the other, up to the first row that is caught. The lists x and u are for a vector and its
+// product with B.
 fn check_vectors(
     setting: Setting,
     ticket: &[u8],
+    list: &[u32],
     a: &[u32],
     w: &[u32],
-    lift: u64,
-    list: &[u32],
+    x: &mut [u64],
+    u: &mut [u64],
 ) -> Answer
-    requires { ⌜ ListReady setting (now ticket) (now list) × Decoded setting (now ticket) (now a) (now w) lift ⌝ }
+    requires { ⌜ ListReady setting (now ticket) (now list) × Decoded setting (now ticket) (now a) (now w) × Room setting (now x) (now u) ⌝ }
     ensures { λ r. ⌜ r ≡ verdict setting (now (ticket .entry)) (now (list .entry)) ⌝ }
 {
     let mut answer = Answer::PASSED;
     let mut t: u32 = 0;
     while t < setting.vectors {
-        answer = check_vector(setting, ticket, a, w, lift, list, t, answer.products);
+        answer = check_vector(setting, ticket, list, a, w, x, u, t, answer.products);
         if answer.number != 0 {
             return answer;
         }
@@ -92,24 +111,21 @@ fn check_vectors(
 fn check_vector(
     setting: Setting,
     ticket: &[u8],
+    list: &[u32],
     a: &[u32],
     w: &[u32],
-    lift: u64,
-    list: &[u32],
+    x: &mut [u64],
+    u: &mut [u64],
     t: u32,
     products: u32,
 ) -> Answer
-    requires { ⌜ VectorReady setting (now ticket) (now list) t products × Decoded setting (now ticket) (now a) (now w) lift ⌝ }
+    requires { ⌜ VectorReady setting (now ticket) (now list) t products × Decoded setting (now ticket) (now a) (now w) × Room setting (now x) (now u) ⌝ }
     ensures { λ r. ⌜ r ≡ step-answer (vectorSteps setting (now (ticket .entry)) (now (list .entry))) t ⌝ }
 {
-    let inner = setting.inner as usize;
-    let columns = setting.columns as usize;
-    let wide = widened(line(list, columns, t));
-    let x = &wide[..columns];
-    let b = ticket::part(setting, ticket, PartNumber::B);
-    let u = product(b, inner, x);
+    widen(line(list, x.len(), t), x);
+    product(ticket::part(setting, ticket, PartNumber::B), x, u);
     let made = products + setting.inner * setting.columns;
-    check_rows(setting, a, w, lift, x, &u[..inner], t, made)
+    check_rows(setting, a, w, x, u, t, made)
 }
 
 // All rows for one vector, x, and its product u with B.
@@ -117,18 +133,15 @@ fn check_rows(
     setting: Setting,
     a: &[u32],
     w: &[u32],
-    lift: u64,
     x: &[u64],
     u: &[u64],
     t: u32,
     products: u32,
 ) -> Answer
-    requires { ⌜ RowsReady setting (now a) (now w) lift (now x) (now u) products ⌝ }
-    ensures { λ r. ⌜ r ≡ steps-answer (rowSteps setting (now (a .entry)) (now (w .entry)) lift (now (x .entry)) (now (u .entry)) t products) ⌝ }
+    requires { ⌜ RowsReady setting (now a) (now w) (now x) (now u) products ⌝ }
+    ensures { λ r. ⌜ r ≡ steps-answer (rowSteps setting (now (a .entry)) (now (w .entry)) (now (x .entry)) (now (u .entry)) t products) ⌝ }
 {
-    let inner = setting.inner as usize;
-    let columns = setting.columns as usize;
-    let left = offset(x, lift);
+    let left = offset(x, setting.lift());
     let right = offset(u, setting.bound as u64);
     let mut answer = Answer {
         number: 0,
@@ -139,8 +152,8 @@ fn check_rows(
     let mut row: u32 = 0;
     while row < setting.rows {
         answer = check_row(
-            line(a, inner, row),
-            line(w, columns, row),
+            line(a, u.len(), row),
+            line(w, x.len(), row),
             x,
             u,
             left,

@@ -19,25 +19,23 @@
 --   narrow-fits, narrow-more   then the sum of o and the products fits 64 bits, and one product more is added
 --   ProductReady b m x   b has m rows of records for x
 --   records-ready     then each row can be multiplied
---   Product b m x u   the first m numbers of u are the rows of b times x
---   Widened x l       l begins with the numbers of x
+--   rowsTimes b x k   row k of b times x
 use Prim.Native.Nat.{ℕ, _+_, _-_, _*_, _%_, _≤_, _<_, _^_}
 use native.Mathlib.Nat.{mod-lt, mod-eq-of-lt, mul-le-mul}
 use native.Mathlib.Omega.{arith}
 use mathlib.Core.Path.{_≡_, sym, ap, _∙_}
 use mathlib.Core.List.{List}
 use lib.IntN.{ℤ, pos, _+ℤ_, _*ℤ_}
-use lib.ListN.{length, getD, replicate}
+use lib.ListN.{length, getD}
 use Rattle.residue.specs.Rules.{modulus, leastResidue, sum, WithNumber}
 use Rattle.residue.specs.Laws.Modulus.{modulus-below, modulus-positive}
 use Rattle.residue.specs.Laws.Products.{product-below, Holds, holds-more}
 use Rattle.residue.specs.Laws.Residues.{residue-of-natural}
 use Rattle.residue.specs.Laws.Sums.{sum-none, sum-more, sum-below}
 use Rattle.algebra.specs.Rules.{sumℤ}
-use Rattle.algebra.specs.Laws.Fills.{Filled}
 use Rattle.algebra.specs.Laws.IntegerSums.{sumℤ-cong}
 use Rattle.algebra.specs.Laws.Positions.{row-inside}
-use Rattle.ticket.specs.Rules.{mostColumns, mostInner, recordBytes, valueAt}
+use Rattle.ticket.specs.Rules.{mostInner, recordBytes, valueAt}
 use Rattle.challenge.specs.Laws.Shifts.{taken-off, shift-off, narrow-term, narrow-sum}
 
 abbrev pub terms : List ℕ → ℕ → List ℕ → ℕ → ℕ
@@ -151,15 +149,11 @@ module _ {list x : List ℕ} {offset : ℕ} (ready : DotReady list x) (narrow : 
 
 pub record ProductReady (bytes : List ℕ) (rows : ℕ) (x : List ℕ) : Type 0 where
   pub vector : ResidueVector x
-  pub few : rows ≤ mostInner
   pub long : recordBytes * (rows * length x) ≤ length bytes
 
 pub records-ready : {bytes x : List ℕ} {rows k : ℕ} → ProductReady bytes rows x → k < rows → RecordsReady bytes (k * length x) x
 records-ready {bytes} {x} ready l =
     record { vector = ready .vector; long = omega (arith, ready .long, row-inside (length x) l) }
 
-abbrev pub Product : List ℕ → ℕ → List ℕ → List ℕ → Type 0
-Product bytes rows x u = Filled 0 (replicate mostInner 0) rows (λ k. dotOf bytes (k * length x) x) u
-
-abbrev pub Widened : List ℕ → List ℕ → Type 0
-Widened x list = Filled 0 (replicate mostColumns 0) (length x) (λ j. getD x j 0) list
+abbrev pub rowsTimes : List ℕ → List ℕ → ℕ → ℕ
+rowsTimes bytes x k = dotOf bytes (k * length x) x

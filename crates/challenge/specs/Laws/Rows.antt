@@ -3,10 +3,10 @@
 --
 --   sidesEqual m n a w x u    w times x, with the offset m, is a times u, with the offset n
 --   rowAnswer m n a w x u τ i q   the answer of row i for vector number τ after q products, by these two sides
---   row-caught, row-balanced   that answer, as the code makes it
---   rowAgrees G a w s x u i   row i of w times x, with the shift s taken off, is row i of a times u, with the bound taken off
---   rowSteps G a w s x u τ q   the rows one after the other, for vector number τ after q products
---   RowsReady G a w s x u q   the rows can be worked through after q products
+--   row-caught, row-balanced  an answer by the comparison of two numbers, as the code makes it
+--   rowAgrees G a w x u i     row i of w times x, with the lift taken off, is row i of a times u, with the bound taken off
+--   rowSteps G a w x u τ q    the rows one after the other, for vector number τ after q products
+--   RowsReady G a w x u q     the rows can be worked through after q products
 --   SidesReady a w x u o q    so can one row
 --   line-inside               a row is within its list
 --   row-ready                 each row is ready, those before it having passed
@@ -24,7 +24,8 @@ use Rattle.algebra.specs.Laws.Fills.{lineAt, part-of, part-long}
 use Rattle.algebra.specs.Laws.Positions.{row-inside}
 use Rattle.ticket.specs.declared.setting.Setting.{Setting}
 use Rattle.ticket.specs.declared.Answer.{Answer}
-use Rattle.ticket.specs.Rules.{unless, answer}
+use Rattle.ticket.specs.Rules.{unless, answer, lift}
+use Rattle.ticket.specs.Laws.Limits.{clamped}
 use Rattle.ticket.specs.Laws.Runs.{Steps, step-answer, RunTo}
 use Rattle.challenge.specs.Laws.Products.{dotWith, offsetOf, offset-small, ResidueVector, DotReady, NarrowReady}
 
@@ -36,7 +37,6 @@ rowAnswer left right a w x u τ i products =
     let made = products + length x + length u in
     unless (sidesEqual left right a w x u) (answer 12 τ i made) (answer 0 0 0 made)
 
--- an answer by the comparison of two numbers, as the code makes it
 module _ {c d m n : ℕ} (c-is : c ≡ m) (d-is : d ≡ n) (caught passed : Answer) where
   pub row-caught : (c ≡ d → ⊥) → caught ≡ unless (eqb m n) caught passed
   row-caught differ = sym (rw (ne-eqb m n (λ e. differ (c-is ∙ e ∙ sym d-is))))
@@ -44,32 +44,30 @@ module _ {c d m n : ℕ} (c-is : c ≡ m) (d-is : d ≡ n) (caught passed : Answ
   pub row-balanced : c ≡ d → passed ≡ unless (eqb m n) caught passed
   row-balanced e = sym (rw (eq-eqb m n (sym c-is ∙ e ∙ d-is)))
 
-abbrev pub rowAgrees : Setting → List ℕ → List ℕ → ℕ → List ℕ → List ℕ → ℕ → Bool
-rowAgrees G a w shift x u i =
-    sidesEqual (offsetOf shift x) (offsetOf (G .bound) u) (lineAt a (G .inner) i) (lineAt w (G .columns) i) x u
+abbrev pub rowAgrees : Setting → List ℕ → List ℕ → List ℕ → List ℕ → ℕ → Bool
+rowAgrees G a w x u i =
+    sidesEqual (offsetOf (lift (clamped G)) x) (offsetOf (G .bound) u) (lineAt a (length u) i) (lineAt w (length x) i) x u
 
-abbrev pub rowSteps : Setting → List ℕ → List ℕ → ℕ → List ℕ → List ℕ → ℕ → ℕ → Steps
-rowSteps G a w shift x u τ products =
+abbrev pub rowSteps : Setting → List ℕ → List ℕ → List ℕ → List ℕ → ℕ → ℕ → Steps
+rowSteps G a w x u τ products =
     record {
       count = G .rows;
-      holds = rowAgrees G a w shift x u;
-      failed = λ i. answer 12 τ i (products + (i + 1) * (G .columns + G .inner));
-      so-far = λ i. answer 0 0 0 (products + i * (G .columns + G .inner));
+      holds = rowAgrees G a w x u;
+      failed = λ i. answer 12 τ i (products + (i + 1) * (length x + length u));
+      so-far = λ i. answer 0 0 0 (products + i * (length x + length u));
       other = λ i e. omega arith;
       passed = λ i. refl;
     }
 
-pub record RowsReady (G : Setting) (a w : List ℕ) (shift : ℕ) (x u : List ℕ) (products : ℕ) : Type 0 where
+pub record RowsReady (G : Setting) (a w x u : List ℕ) (products : ℕ) : Type 0 where
+  pub lift-below : lift (clamped G) ≤ modulus
   pub bound-below : G .bound ≤ modulus
-  pub shift-below : shift ≤ modulus
-  pub size-x : length x ≡ G .columns
-  pub size-u : length u ≡ G .inner
   pub vector-x : ResidueVector x
   pub vector-u : ResidueVector u
-  pub long-A : G .rows * G .inner ≤ length a
-  pub long-claims : G .rows * G .columns ≤ length w
-  pub small : (k : ℕ) → k < G .rows * G .inner → getD a k 0 < 2 ^ 16
-  pub few : products + G .rows * (G .columns + G .inner) < 2 ^ 32
+  pub long-A : G .rows * length u ≤ length a
+  pub long-claims : G .rows * length x ≤ length w
+  pub small : (k : ℕ) → k < G .rows * length u → getD a k 0 < 2 ^ 16
+  pub few : products + G .rows * (length x + length u) < 2 ^ 32
 
 pub record SidesReady (a w x u : List ℕ) (right products : ℕ) : Type 0 where
   pub operands : DotReady a u
@@ -80,38 +78,35 @@ pub record SidesReady (a w x u : List ℕ) (right products : ℕ) : Type 0 where
 pub line-inside : {rows i long : ℕ} (n : ℕ) → i < rows → rows * n ≤ long → i * n + n ≤ long
 line-inside n l h = omega (arith, row-inside n l)
 
-module _ {G : Setting} {a w : List ℕ} {shift : ℕ} {x u : List ℕ} {products : ℕ} (ready : RowsReady G a w shift x u products)
-    {τ i : ℕ} {b : Answer} (run : RunTo (rowSteps G a w shift x u τ products) i b) (l : i < G .rows)
-    {left right : ℕ} (left-is : left ≡ offsetOf shift x) (right-is : right ≡ offsetOf (G .bound) u)
-    {r s : List ℕ} (r-is : r ≡ lineAt a (G .inner) i) (s-is : s ≡ lineAt w (G .columns) i) where
+-- lines are as long as the vectors
+line-ready : {rows i : ℕ} (list : List ℕ) {x : List ℕ} → ResidueVector x → i < rows → rows * length x ≤ length list
+    → DotReady (lineAt list (length x) i) x
+line-ready {i = i} list {x} vector l long =
+    record { vector = vector; long = omega (arith, part-long list (i * length x) (length x) (line-inside (length x) l long)) }
+
+module _ {G : Setting} {a w x u : List ℕ} {products : ℕ} (ready : RowsReady G a w x u products)
+    {τ i : ℕ} {b : Answer} (run : RunTo (rowSteps G a w x u τ products) i b) (l : i < G .rows)
+    {left right : ℕ} (left-is : left ≡ offsetOf (lift (clamped G)) x) (right-is : right ≡ offsetOf (G .bound) u)
+    {r s : List ℕ} (r-is : r ≡ lineAt a (length u) i) (s-is : s ≡ lineAt w (length x) i) where
   -- the products of one row more
-  counted : b .products + length x + length u ≡ products + (i + 1) * (G .columns + G .inner)
-  counted = omega (arith, ap (λ c. c .products) (run .answer-is), ready .size-x, ready .size-u)
+  counted : b .products + length x + length u ≡ products + (i + 1) * (length x + length u)
+  counted = omega (arith, ap (λ c. c .products) (run .answer-is))
 
   pub row-ready : SidesReady r s x u right (b .products)
   row-ready =
       rw (r-is, s-is, right-is)
       (record {
-        operands =
-            record {
-              vector = ready .vector-u;
-              long = omega (arith, ready .size-u, part-long a (i * G .inner) (G .inner) (line-inside (G .inner) l (ready .long-A)));
-            };
+        operands = line-ready a (ready .vector-u) l (ready .long-A);
         narrow =
             record {
               small = λ k m.
-                  rw (part-of a (i * G .inner) (G .inner) k 0 (omega (arith, ready .size-u)))
-                  (ready .small (i * G .inner + k) (omega (arith, ready .size-u, row-inside (G .inner) l)));
+                  rw (part-of a (i * length u) (length u) k 0 m)
+                  (ready .small (i * length u + k) (omega (arith, row-inside (length u) l)));
               offset-small = offset-small (G .bound) (length u) (λ j. getD u j 0);
             };
-        claims =
-            record {
-              vector = ready .vector-x;
-              long = omega (arith, ready .size-x, part-long w (i * G .columns) (G .columns) (line-inside (G .columns) l (ready .long-claims)));
-            };
-        few = omega (arith, counted, row-inside (G .columns + G .inner) l, ready .few);
+        claims = line-ready w (ready .vector-x) l (ready .long-claims);
+        few = omega (arith, counted, row-inside (length x + length u) l, ready .few);
       })
 
-  pub row-step : {c : Answer} → c ≡ rowAnswer left right r s x u τ i (b .products)
-      → c ≡ step-answer (rowSteps G a w shift x u τ products) i
+  pub row-step : {c : Answer} → c ≡ rowAnswer left right r s x u τ i (b .products) → c ≡ step-answer (rowSteps G a w x u τ products) i
   row-step e = e ∙ rw (left-is, right-is, r-is, s-is, counted)

@@ -22,7 +22,7 @@ use mathlib.Core.Path.{_≡_, refl, sym, ap, _∙_}
 use mathlib.Core.Bool.{Bool}
 use mathlib.Core.List.{List}
 use lib.Dec.{eqb}
-use lib.ListN.{length, getD, take, length-replicate}
+use lib.ListN.{length, getD, take}
 use lib.Seq.{ext-getD, getD-take, length-take-le}
 use Rattle.residue.specs.Rules.{modulus, leastResidue, sum}
 use Rattle.residue.specs.Laws.Modulus.{modulus-above, modulus-positive}
@@ -41,13 +41,12 @@ use Rattle.ticket.specs.Laws.Runs.{Steps, steps-answer, step-answer, RunTo}
 use Rattle.ticket.specs.Laws.Scans.{scan-cong, scan-by-first}
 use Rattle.challenge.specs.Rules.{challengeAt, balanced, claimSide, operandSide, productB, firstRow, vectorProducts, caught, verdict}
 use Rattle.challenge.specs.Laws.Lists.{ListEntries}
-use Rattle.challenge.specs.Laws.Products.{ResidueVector, ProductReady, Product, Widened, dotOf, dotWith, offsetOf, side-made}
+use Rattle.challenge.specs.Laws.Products.{ResidueVector, ProductReady, rowsTimes, dotOf, dotWith, offsetOf, side-made}
 use Rattle.challenge.specs.Laws.Rows.{RowsReady, rowAgrees, rowSteps, line-inside}
 
-pub record Decoded (G : Setting) (t a w : List ℕ) (shift : ℕ) : Type 0 where
+pub record Decoded (G : Setting) (t a w : List ℕ) : Type 0 where
   pub entries : ShiftedEntries G t a
   pub claims : LiftedClaims G t w
-  pub shift-is : shift ≡ lift G
 
 pub record ListReady (G : Setting) (t x : List ℕ) : Type 0 where
   pub passed : Passed G t
@@ -59,6 +58,11 @@ pub record DecodeReady (G : Setting) (t x : List ℕ) (entries claims : ℕ) : T
   pub list : ListReady G t x
   pub entries-fit : partSize (part (clamped G) ofA) ≤ entries
   pub claims-fit : partSize (part (clamped G) ofQuotients) ≤ claims
+
+-- x and u are for a vector and for its product with B
+pub record Room (G : Setting) (x u : List ℕ) : Type 0 where
+  pub columns : length x ≡ G .columns
+  pub inner : length u ≡ G .inner
 
 module _ {G : Setting} {t : List ℕ} (passed : Passed G t) where
   same : clamped G ≡ G
@@ -79,40 +83,39 @@ module _ {G : Setting} {t : List ℕ} (passed : Passed G t) where
         claims-few = omega (arith, size-claims, passed .counts .claims);
       }
 
-  pub decoded-by : {a before-a w before-w b q r : List ℕ} {half shift : ℕ}
+  pub decoded-by : {a before-a w before-w b q r : List ℕ} {half : ℕ}
       → partSize (part (clamped G) ofA) ≤ length before-a → partSize (part (clamped G) ofQuotients) ≤ length before-w
       → b ≡ partBytes (clamped G) t ofA → q ≡ partBytes (clamped G) t ofQuotients → r ≡ partBytes (clamped G) t ofRemainders
-      → half ≡ halfRange (clamped G) → shift ≡ lift (clamped G)
+      → half ≡ halfRange (clamped G)
       → Filled 0 before-a (decodedCount b (length before-a)) (shiftedAt b (G .bound)) a
       → Filled 0 before-w (claimCount q r (length before-w)) (liftedAt q r half (G .scale)) w
-      → Decoded G t a w shift
-  decoded-by room-a room-w b-is q-is r-is half-is shift-is entries claims =
+      → Decoded G t a w
+  decoded-by room-a room-w b-is q-is r-is half-is entries claims =
       record {
         entries = entries-shifted passed b-is (omega (arith, size-A)) entries;
         claims = claims-lifted passed q-is r-is half-is (omega (arith, size-claims)) claims;
-        shift-is = shift-is ∙ ap lift same;
       }
 
 -- the two sides of row i for vector τ: v holds its numbers, u those of its product with B
-module _ {G : Setting} {t : List ℕ} (passed : Passed G t) {a w : List ℕ} {shift : ℕ} (decoded : Decoded G t a w shift) (x : List ℕ) (τ : ℕ)
-    (v u : List ℕ) (size-v : length v ≡ G .columns) (size-u : length u ≡ G .inner)
-    (vector : (j : ℕ) → j < G .columns → getD v j 0 ≡ challengeAt G x τ j) (product : (k : ℕ) → k < G .inner → getD u k 0 ≡ productB G t x τ k)
-    {i : ℕ} (row : i < G .rows) where
-  claim-side : dotWith (offsetOf shift v) (lineAt w (G .columns) i) v ≡ claimSide G t x τ i
+module _ {G : Setting} {t : List ℕ} (passed : Passed G t) {a w : List ℕ} (decoded : Decoded G t a w) (x : List ℕ) (τ : ℕ)
+    (v u : List ℕ) (room : Room G v u) (vector : (j : ℕ) → j < G .columns → getD v j 0 ≡ challengeAt G x τ j)
+    (product : (k : ℕ) → k < G .inner → getD u k 0 ≡ productB G t x τ k) {i : ℕ} (row : i < G .rows) where
+  claim-side : dotWith (offsetOf (lift (clamped G)) v) (lineAt w (length v) i) v ≡ claimSide G t x τ i
   unfolding claimSide
   claim-side =
-      side-made shift (G .columns) (claim G t i) (challengeAt G x τ) (lineAt w (G .columns) i) v
-      (omega (arith, decoded .shift-is, lift-small (passed .numbers) (passed .fitted))) size-v vector
-      (λ j l. rw (part-of w (i * G .columns) (G .columns) j 0 l, decoded .shift-is) (decoded .claims .each i j row l))
+      rw (same passed)
+      (side-made (lift G) (G .columns) (claim G t i) (challengeAt G x τ) (lineAt w (length v) i) v
+      (omega (arith, lift-small (passed .numbers) (passed .fitted))) (room .columns) vector
+      (λ j l. rw (room .columns, part-of w (i * G .columns) (G .columns) j 0 l) (decoded .claims .each i j row l)))
 
-  operand-side : dotWith (offsetOf (G .bound) u) (lineAt a (G .inner) i) u ≡ operandSide G t x τ i
+  operand-side : dotWith (offsetOf (G .bound) u) (lineAt a (length u) i) u ≡ operandSide G t x τ i
   unfolding operandSide
   operand-side =
-      side-made (G .bound) (G .inner) (entryA G t i) (productB G t x τ) (lineAt a (G .inner) i) u
-      (omega (arith, passed .numbers .bound, modulus-above)) size-u product
-      (λ k l. rw (part-of a (i * G .inner) (G .inner) k 0 l) (decoded .entries .entry i k row l))
+      side-made (G .bound) (G .inner) (entryA G t i) (productB G t x τ) (lineAt a (length u) i) u
+      (omega (arith, passed .numbers .bound, modulus-above)) (room .inner) product
+      (λ k l. rw (room .inner, part-of a (i * G .inner) (G .inner) k 0 l) (decoded .entries .entry i k row l))
 
-  agrees-balanced : rowAgrees G a w shift v u i ≡ balanced G t x τ i
+  agrees-balanced : rowAgrees G a w v u i ≡ balanced G t x τ i
   unfolding balanced
   agrees-balanced = rw (claim-side, operand-side)
 
@@ -154,14 +157,11 @@ module _ {G : Setting} {t x : List ℕ} {τ products : ℕ} (ready : VectorReady
   abbrev v : List ℕ
   v = lineAt x (G .columns) τ
 
-  pub vector-inside : τ * G .columns + G .columns ≤ length x
+  vector-inside : τ * G .columns + G .columns ≤ length x
   vector-inside = line-inside (G .columns) (ready .within) (omega (arith, ready .list .list .size))
 
-  pub vector-long : length v ≡ G .columns
+  vector-long : length v ≡ G .columns
   vector-long = part-long x (τ * G .columns) (G .columns) vector-inside
-
-  pub vector-short : {y : List ℕ} → y ≡ v → length y ≤ mostColumns
-  vector-short e = omega (arith, ap length e ∙ vector-long, ready .list .passed .counts .sizes)
 
   entries : (j : ℕ) → j < G .columns → getD v j 0 ≡ challengeAt G x τ j
   entries j l = part-of x (τ * G .columns) (G .columns) j 0 l
@@ -175,73 +175,74 @@ module _ {G : Setting} {t x : List ℕ} {τ products : ℕ} (ready : VectorReady
             rw (entries j m) (ready .list .list .below (τ * G .columns + j) (omega (arith, vector-inside, ready .list .list .size)));
       }
 
-  pub widened-same : {y wide : List ℕ} → y ≡ v → Widened y wide → take (G .columns) wide ≡ v
-  widened-same {y} {wide} y-is filled =
-      let size : length (take (G .columns) wide) ≡ G .columns =
-      length-take-le (G .columns) wide (omega (arith, filled .long, length-replicate {A = ℕ} mostColumns 0, ready .list .passed .counts .sizes)) in
-      ext-getD 0 (take (G .columns) wide) v (size ∙ sym vector-long)
-      (λ j l. getD-take (G .columns) wide j 0 (omega arith) ∙ filled .each j (rw (y-is, vector-long) (omega arith)) ∙ ap (λ z. getD z j 0) y-is)
+  pub line-within : {before-y before-u : List ℕ} → Room G before-y before-u → τ * length before-y + length before-y ≤ length x
+  line-within room = rw (room .columns) vector-inside
 
-  module _ {y b : List ℕ} (y-is : y ≡ v) (b-is : b ≡ partBytes (clamped G) t ofB) where
-    pub matrix-ready : ProductReady b (G .inner) y
-    matrix-ready =
-        rw y-is (
-        record {
-          vector = vector;
-          few = omega (arith, ready .list .passed .counts .sizes);
-          long = omega (arith, ap (λ n. G .inner * n) vector-long, values-B (ready .list .passed) b-is .0);
-        })
+  module _ {before-y before-u : List ℕ} (room : Room G before-y before-u) {z : List ℕ} (z-is : z ≡ lineAt x (length before-y) τ) where
+    line-is : z ≡ v
+    line-is = z-is ∙ ap (λ n. lineAt x n τ) (room .columns)
 
-    module _ {u : List ℕ} (made : Product b (G .inner) y u) where
-      pub product-long : length (take (G .inner) u) ≡ G .inner
-      product-long =
-          length-take-le (G .inner) u (omega (arith, made .long, length-replicate {A = ℕ} mostInner 0, ready .list .passed .counts .sizes))
+    pub line-fits : length z ≤ length before-y
+    line-fits = omega (arith, ap length line-is, vector-long, room .columns)
 
-      product-made : (k : ℕ) → k < G .inner → getD (take (G .inner) u) k 0 ≡ productB G t x τ k
-      unfolding dotOf productB
-      product-made k l =
-          getD-take (G .inner) u k 0 l ∙ made .each k l ∙ rw (y-is, vector-long)
-          (ap (λ n. n % modulus) (sum-cong (G .columns) _ (λ j. leastResidue modulus (entryB G t k j) * challengeAt G x τ j)
-          (λ j m. rw (values-B (ready .list .passed) b-is .1 k j l m, entries j m)))
-          ∙ sym (residue-dot modulus modulus-positive (G .columns) (entryB G t k) (challengeAt G x τ)))
+    module _ {y b : List ℕ} (widened : Filled 0 before-y (length z) (λ j. getD z j 0) y) (b-is : b ≡ partBytes (clamped G) t ofB) where
+      y-is : y ≡ v
+      y-is =
+          ext-getD 0 y v (widened .long ∙ room .columns ∙ sym vector-long)
+          (λ j l. widened .each j (omega (arith, ap length line-is, vector-long, widened .long, room .columns)) ∙ ap (λ q. getD q j 0) line-is)
 
-      product-vector : ResidueVector (take (G .inner) u)
-      unfolding dotOf
-      product-vector =
+      pub matrix-ready : ProductReady b (length before-u) y
+      matrix-ready =
+          rw (y-is, room .inner) (
           record {
-            short = omega (arith, product-long, ready .list .passed .counts .sizes);
-            below = λ k l.
-                let m : k < G .inner = omega (arith, product-long) in
-                rw (getD-take (G .inner) u k 0 m, made .each k m) (mod-lt _ modulus-positive);
-          }
+            vector = vector;
+            long = omega (arith, ap (λ n. G .inner * n) vector-long, values-B (ready .list .passed) b-is .0);
+          })
 
-      module _ {a w : List ℕ} {shift : ℕ} (decoded : Decoded G t a w shift) where
-        pub rows-ready : RowsReady G a w shift y (take (G .inner) u) (products + G .inner * G .columns)
-        rows-ready =
-            let passed = ready .list .passed in
-            rw y-is (
+      module _ {u : List ℕ} (made : Filled 0 before-u (length before-u) (rowsTimes b y) u) where
+        product-made : (k : ℕ) → k < G .inner → getD u k 0 ≡ productB G t x τ k
+        unfolding dotOf productB
+        product-made k l =
+            made .each k (omega (arith, room .inner)) ∙ rw (y-is, vector-long)
+            (ap (λ n. n % modulus) (sum-cong (G .columns) _ (λ j. leastResidue modulus (entryB G t k j) * challengeAt G x τ j)
+            (λ j m. rw (values-B (ready .list .passed) b-is .1 k j l m, entries j m)))
+            ∙ sym (residue-dot modulus modulus-positive (G .columns) (entryB G t k) (challengeAt G x τ)))
+
+        product-vector : ResidueVector u
+        unfolding dotOf
+        product-vector =
             record {
-              bound-below = omega (arith, passed .numbers .bound, modulus-above);
-              shift-below = omega (arith, decoded .shift-is, lift-small (passed .numbers) (passed .fitted));
-              size-x = vector-long;
-              size-u = product-long;
-              vector-x = vector;
-              vector-u = product-vector;
-              long-A = decoded .entries .long;
-              long-claims = decoded .claims .long;
-              small = decoded .entries .small;
-              few = omega (arith, ready .few);
-            })
+              short = omega (arith, made .long, room .inner, ready .list .passed .counts .sizes);
+              below = λ k l. rw (made .each k (omega (arith, made .long))) (mod-lt _ modulus-positive);
+            }
 
-        pub vector-answered : {r : Answer} → r ≡ steps-answer (rowSteps G a w shift y (take (G .inner) u) τ (products + G .inner * G .columns))
-            → r ≡ step-answer (vectorSteps G t x) τ
-        unfolding firstRow
-        vector-answered {r} e =
-            (rw y-is at e)
-            ∙ scan-cong (G .rows) _ (balanced G t x τ) _ _
-            (λ i l. agrees-balanced (ready .list .passed) decoded x τ v (take (G .inner) u) vector-long product-long entries product-made l)
-            ∙ scan-by-first (G .rows) (balanced G t x τ) _ _
-            ∙ rw (ready .made, counted)
-          where
-            counted : τ * vectorProducts G + G .inner * G .columns + G .rows * (G .columns + G .inner) ≡ (τ + 1) * vectorProducts G
-            counted = omega arith
+        rooms : Room G y u
+        rooms = record { columns = ap length y-is ∙ vector-long; inner = made .long ∙ room .inner }
+
+        module _ {a w : List ℕ} (decoded : Decoded G t a w) where
+          pub rows-ready : RowsReady G a w y u (products + G .inner * G .columns)
+          rows-ready =
+              let passed = ready .list .passed in
+              record {
+                lift-below = rw (same passed) (omega (arith, lift-small (passed .numbers) (passed .fitted)));
+                bound-below = omega (arith, passed .numbers .bound, modulus-above);
+                vector-x = rw y-is vector;
+                vector-u = product-vector;
+                long-A = rw (rooms .inner) (decoded .entries .long);
+                long-claims = rw (rooms .columns) (decoded .claims .long);
+                small = rw (rooms .inner) (decoded .entries .small);
+                few = rw (rooms .columns, rooms .inner) (omega (arith, ready .few));
+              }
+
+          pub vector-answered : {r : Answer} → r ≡ steps-answer (rowSteps G a w y u τ (products + G .inner * G .columns))
+              → r ≡ step-answer (vectorSteps G t x) τ
+          unfolding firstRow
+          vector-answered {r} e =
+              e
+              ∙ (scan-cong (G .rows) _ (balanced G t x τ) _ _
+              (λ i l. agrees-balanced (ready .list .passed) decoded x τ y u rooms (λ j m. ap (λ q. getD q j 0) y-is ∙ entries j m) product-made l)
+              ∙ scan-by-first (G .rows) (balanced G t x τ) _ _
+              ∙ rw (rooms .columns, rooms .inner, ready .made, counted))
+            where
+              counted : τ * vectorProducts G + G .inner * G .columns + G .rows * (G .columns + G .inner) ≡ (τ + 1) * vectorProducts G
+              counted = omega arith

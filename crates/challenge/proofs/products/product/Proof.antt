@@ -1,22 +1,25 @@
 -- The loop keeps: the first k numbers of u are rows of the matrix times the vector.
-use Prim.Native.Nat.{_-_, _≤_}
+use Prim.Native.Nat.{_-_, _≤_, _<_}
 use native.Mathlib.Omega.{arith}
 use mathlib.Core.Path.{_≡_}
 use lib.ListN.{length}
-use Rattle.algebra.specs.Laws.Fills.{filled-none, filled-more}
+use Rattle.algebra.specs.Laws.Fills.{Filled, filled-none, filled-more}
 use Rattle.algebra.specs.Laws.Positions.{row-inside}
-use Rattle.challenge.specs.Laws.Products.{Product, records-ready}
+use Rattle.challenge.specs.Laws.Products.{rowsTimes, records-ready}
 use Rattle.challenge.proofs.products.product.Statement.{statement}
 use Rattle.challenge.proofs.products.product.Tie as tie
 
 abbrev Inv-loop : tie.InvT-loop
-Inv-loop matrix rows vector u₀ k₀ u k = (k ≤ rows) × Product matrix k vector u
+Inv-loop matrix vector u₀ k₀ u k = (k ≤ length u₀) × Filled 0 u₀ k (rowsTimes matrix vector) u
 
 abbrev μ-loop : tie.MeasureT-loop
-μ-loop matrix rows vector u₀ k₀ u k = rows - k
+μ-loop matrix vector u₀ k₀ u k = length u₀ - k
 
 abbrev start : tie.At-loop Inv-loop μ-loop → tie.Start Inv-loop μ-loop
-start c = c .before .before .before
+start c = c .before .before .before .before
+
+more : (c : tie.In-loop Inv-loop μ-loop) → c .before .loop .k < length (start (c .before) .args .u .now)
+more c = omega arith
 
 loop-holds : tie.Need-loop-holds Inv-loop μ-loop
 loop-holds c = (omega arith, filled-none)
@@ -24,21 +27,21 @@ loop-holds c = (omega arith, filled-none)
 mul-start : tie.Need-mul-start Inv-loop μ-loop
 mul-start c =
     let at = start (c .before) in
-    omega (arith, row-inside (length (at .args .vector .now)) (c .loop-test .taken), at .pre .long)
+    omega (arith, row-inside (length (at .args .vector .now)) (more c), at .pre .long)
 
 dot-records-requires : tie.Need-dot-records-requires Inv-loop μ-loop
-dot-records-requires c κs = records-ready (start (c .before) .pre) (c .loop-test .taken)
+dot-records-requires c κs = records-ready (start (c .before) .pre) (more c)
 
 loop-again : tie.Need-loop-again Inv-loop μ-loop
-loop-again c = (omega arith, filled-more (omega (arith, start (c .before .before) .pre .few)) (c .before .before .loop .inv .1) (c .dot-records .ensures))
+loop-again c = (omega arith, filled-more (more (c .before)) (c .before .before .loop .inv .1) (c .dot-records .ensures))
 
 returns : tie.Need-returns Inv-loop μ-loop
 returns c =
-    let all : c .before .loop .k ≡ start (c .before) .args .rows = omega arith in
+    let all : c .before .loop .k ≡ length (start (c .before) .args .u .now) = omega arith in
     rw all at (c .before .loop .inv .1)
 
 pub product-spec : {M : Type 1} → statement M
 product-spec =
     tie.close
     (tie.spec Inv-loop μ-loop loop-holds mul-start dot-records-requires (λ c. omega arith) (λ c. omega arith) (λ c. omega arith)
-    (λ c. omega arith) (λ c. omega arith) loop-again returns)
+    (λ c. omega arith) (λ c. omega arith) loop-again (λ c. omega arith) returns)

@@ -2,23 +2,19 @@
 use Prim.Native.Nat.{_-_, _≤_}
 use native.Mathlib.Omega.{arith}
 use mathlib.Core.Path.{_≡_, refl}
-use lib.ListN.{length, getD, replicate}
+use lib.ListN.{length, getD}
 use Rattle.algebra.specs.Laws.Fills.{Filled, filled-none, filled-more}
-use Rattle.ticket.specs.Rules.{mostColumns}
-use Rattle.challenge.proofs.products.widened.Statement.{statement}
-use Rattle.challenge.proofs.products.widened.Tie as tie
+use Rattle.challenge.proofs.products.widen.Statement.{statement}
+use Rattle.challenge.proofs.products.widen.Tie as tie
 
 abbrev Inv-loop : tie.InvT-loop
-Inv-loop vector list₀ j₀ list j = (j ≤ length vector) × Filled 0 (replicate mostColumns 0) j (λ i. getD vector i 0) list
+Inv-loop vector list₀ j₀ list j = (j ≤ length vector) × Filled 0 list₀ j (λ i. getD vector i 0) list
 
 abbrev μ-loop : tie.MeasureT-loop
 μ-loop vector list₀ j₀ list j = length vector - j
 
 loop-holds : tie.Need-loop-holds Inv-loop μ-loop
 loop-holds c = (omega arith, filled-none)
-
-cast-list : tie.Need-cast-list Inv-loop μ-loop
-cast-list c = omega (arith, c .shared-slice-known .given (c .before .before .loop .j))
 
 loop-again : tie.Need-loop-again Inv-loop μ-loop
 loop-again c = (omega arith, filled-more (omega arith) (c .before .before .loop .inv .1) refl)
@@ -28,8 +24,9 @@ returns c =
     let all : c .before .loop .j ≡ length (c .before .before .args .vector .now) = omega arith in
     rw all at (c .before .loop .inv .1)
 
-pub widened-spec : {M : Type 1} → statement M
-widened-spec =
+pub widen-spec : {M : Type 1} → statement M
+widen-spec =
     tie.close
-    (tie.spec Inv-loop μ-loop loop-holds (λ c. omega arith) (λ c. omega arith) cast-list (λ c. omega arith) (λ c. omega arith)
-    (λ c. omega arith) (λ c. omega arith) loop-again returns)
+    (tie.spec Inv-loop μ-loop loop-holds (λ c. omega arith) (λ c. omega arith)
+    (λ c. omega (arith, c .shared-slice-known .given (c .before .before .loop .j))) (λ c. omega arith) (λ c. omega arith)
+    (λ c. omega arith) (λ c. omega arith) loop-again (λ c. omega arith) returns)
