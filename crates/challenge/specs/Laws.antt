@@ -4,11 +4,13 @@
 --   Shifts     sums of products in which one factor is shifted
 --   Products   products with a vector
 --   Rows       all rows of one vector
---   Vectors    all vectors, and the rules
+--   Sides      the two sides of a row
+--   Vectors    all vectors of a list
 --   Checks     the whole check (C1)
 pub mod Lists
 pub mod Shifts
 pub mod Products
 pub mod Rows
+pub mod Sides
 pub mod Vectors
 pub mod Checks

@@ -1,30 +1,26 @@
--- All vectors of a list, as the code works through them: from the lists that a ticket is decoded to, to the rules.
+-- All vectors of a list, as the code works through them. x is the list, v its vector τ; y and u are the lists for a vector and its product
+-- with B, named before-y and before-u as they were before they were filled.
 --
---   Decoded G t a w s        a holds the entries of A with the bound added, w what the claims put for their sums, with s added
 --   ListReady G t x          the vectors of the list x can be worked through
+--   list-ready               those of a well-formed list can, with a ticket that passes
 --   DecodeReady G t x n k    so they can with lists of n and of k numbers for A and the claims
---   decoded-by               these are then decoded
 --   vectorSteps G t x        the vectors one after the other
 --   vectors-answer           their answer is the verdict
 --   VectorReady G t x τ q    vector τ can be worked through after q products
 --   vector-ready             each can, those before it having passed
---   vector-inside            it is within the list
---   vector-long, vector-short   how many numbers it has
---   widened-same             the vector in 64-bit numbers is the same list
+--   line-within, line-fits   the vector is within the list, and is not too long for y
 --   matrix-ready             the bytes of B hold its rows
---   product-long             its product u with B has as many numbers as B has rows
---   rows-ready               the rows are ready once u is made
+--   rows-ready               the rows are ready once y and u are filled
 --   vector-answered          the answer of the rows, by what they are decoded to, is that of the vector
 use Prim.Native.Nat.{ℕ, _+_, _*_, _%_, _≤_, _<_, _^_}
 use native.Mathlib.Nat.{mod-lt, mul-le-mul}
 use native.Mathlib.Omega.{arith}
 use mathlib.Core.Path.{_≡_, refl, sym, ap, _∙_}
-use mathlib.Core.Bool.{Bool}
 use mathlib.Core.List.{List}
 use lib.Dec.{eqb}
-use lib.ListN.{length, getD, take}
-use lib.Seq.{ext-getD, getD-take, length-take-le}
-use Rattle.residue.specs.Rules.{modulus, leastResidue, sum}
+use lib.ListN.{length, getD}
+use lib.Seq.{ext-getD}
+use Rattle.residue.specs.Rules.{modulus, leastResidue}
 use Rattle.residue.specs.Laws.Modulus.{modulus-above, modulus-positive}
 use Rattle.residue.specs.Laws.Sums.{sum-cong}
 use Rattle.algebra.specs.Laws.Fills.{Filled, lineAt, part-of, part-long}
@@ -32,21 +28,18 @@ use Rattle.algebra.specs.Laws.IntegerSums.{residue-dot}
 use Rattle.algebra.specs.Laws.Positions.{row-inside}
 use Rattle.ticket.specs.declared.setting.Setting.{Setting}
 use Rattle.ticket.specs.declared.Answer.{Answer}
-use Rattle.ticket.specs.Rules.{mostRows, mostInner, mostColumns, mostVectors, lift, halfRange, part, partSize, ofA, ofB, ofQuotients, ofRemainders, answer, entryA, entryB, claim}
-use Rattle.ticket.specs.Laws.Decodes.{ShiftedEntries, LiftedClaims, decodedCount, claimCount, shiftedAt, liftedAt, entries-shifted, claims-lifted, values-B}
-use Rattle.ticket.specs.Laws.Layout.{partBytes, parts-are}
-use Rattle.ticket.specs.Laws.Limits.{clamped, clamped-same, lift-small}
+use Rattle.ticket.specs.Rules.{mostRows, mostInner, mostColumns, part, partSize, ofA, ofB, ofQuotients, answer, entryB}
+use Rattle.ticket.specs.Laws.Decodes.{values-B}
+use Rattle.ticket.specs.Laws.Layout.{partBytes}
+use Rattle.ticket.specs.Laws.Limits.{clamped, lift-small}
 use Rattle.ticket.specs.Laws.Passes.{Passed}
 use Rattle.ticket.specs.Laws.Runs.{Steps, steps-answer, step-answer, RunTo}
 use Rattle.ticket.specs.Laws.Scans.{scan-cong, scan-by-first}
-use Rattle.challenge.specs.Rules.{challengeAt, balanced, claimSide, operandSide, productB, firstRow, vectorProducts, caught, verdict}
+use Rattle.challenge.specs.Rules.{challengeAt, balanced, productB, firstRow, vectorProducts, caught, verdict}
 use Rattle.challenge.specs.Laws.Lists.{ListEntries}
-use Rattle.challenge.specs.Laws.Products.{ResidueVector, ProductReady, rowsTimes, dotOf, dotWith, offsetOf, side-made}
-use Rattle.challenge.specs.Laws.Rows.{RowsReady, rowAgrees, rowSteps, line-inside}
-
-pub record Decoded (G : Setting) (t a w : List ℕ) : Type 0 where
-  pub entries : ShiftedEntries G t a
-  pub claims : LiftedClaims G t w
+use Rattle.challenge.specs.Laws.Products.{ResidueVector, ProductReady, rowsTimes, dotOf}
+use Rattle.challenge.specs.Laws.Rows.{RowsReady, rowSteps, line-inside}
+use Rattle.challenge.specs.Laws.Sides.{Room, Decoded, same-setting, entries-size, claims-size, agrees-balanced}
 
 pub record ListReady (G : Setting) (t x : List ℕ) : Type 0 where
   pub passed : Passed G t
@@ -54,70 +47,19 @@ pub record ListReady (G : Setting) (t x : List ℕ) : Type 0 where
   pub entries-few : partSize (part (clamped G) ofA) ≤ mostRows * mostInner
   pub claims-few : partSize (part (clamped G) ofQuotients) ≤ mostRows * mostColumns
 
+pub list-ready : {G : Setting} {t x : List ℕ} → Passed G t → ListEntries G x → ListReady G t x
+list-ready passed list =
+    record {
+      passed = passed;
+      list = list;
+      entries-few = omega (arith, entries-size passed, passed .counts .entries-A);
+      claims-few = omega (arith, claims-size passed, passed .counts .claims);
+    }
+
 pub record DecodeReady (G : Setting) (t x : List ℕ) (entries claims : ℕ) : Type 0 where
   pub list : ListReady G t x
   pub entries-fit : partSize (part (clamped G) ofA) ≤ entries
   pub claims-fit : partSize (part (clamped G) ofQuotients) ≤ claims
-
--- x and u are for a vector and for its product with B
-pub record Room (G : Setting) (x u : List ℕ) : Type 0 where
-  pub columns : length x ≡ G .columns
-  pub inner : length u ≡ G .inner
-
-module _ {G : Setting} {t : List ℕ} (passed : Passed G t) where
-  same : clamped G ≡ G
-  same = clamped-same (passed .counts .sizes) (passed .numbers)
-
-  size-A : partSize (part (clamped G) ofA) ≡ G .rows * G .inner
-  size-A = rw same (parts-are G .size-A)
-
-  size-claims : partSize (part (clamped G) ofQuotients) ≡ G .rows * G .columns
-  size-claims = rw same (parts-are G .size-quotients)
-
-  pub list-ready : {x : List ℕ} → ListEntries G x → ListReady G t x
-  list-ready list =
-      record {
-        passed = passed;
-        list = list;
-        entries-few = omega (arith, size-A, passed .counts .entries-A);
-        claims-few = omega (arith, size-claims, passed .counts .claims);
-      }
-
-  pub decoded-by : {a before-a w before-w b q r : List ℕ} {half : ℕ}
-      → partSize (part (clamped G) ofA) ≤ length before-a → partSize (part (clamped G) ofQuotients) ≤ length before-w
-      → b ≡ partBytes (clamped G) t ofA → q ≡ partBytes (clamped G) t ofQuotients → r ≡ partBytes (clamped G) t ofRemainders
-      → half ≡ halfRange (clamped G)
-      → Filled 0 before-a (decodedCount b (length before-a)) (shiftedAt b (G .bound)) a
-      → Filled 0 before-w (claimCount q r (length before-w)) (liftedAt q r half (G .scale)) w
-      → Decoded G t a w
-  decoded-by room-a room-w b-is q-is r-is half-is entries claims =
-      record {
-        entries = entries-shifted passed b-is (omega (arith, size-A)) entries;
-        claims = claims-lifted passed q-is r-is half-is (omega (arith, size-claims)) claims;
-      }
-
--- the two sides of row i for vector τ: v holds its numbers, u those of its product with B
-module _ {G : Setting} {t : List ℕ} (passed : Passed G t) {a w : List ℕ} (decoded : Decoded G t a w) (x : List ℕ) (τ : ℕ)
-    (v u : List ℕ) (room : Room G v u) (vector : (j : ℕ) → j < G .columns → getD v j 0 ≡ challengeAt G x τ j)
-    (product : (k : ℕ) → k < G .inner → getD u k 0 ≡ productB G t x τ k) {i : ℕ} (row : i < G .rows) where
-  claim-side : dotWith (offsetOf (lift (clamped G)) v) (lineAt w (length v) i) v ≡ claimSide G t x τ i
-  unfolding claimSide
-  claim-side =
-      rw (same passed)
-      (side-made (lift G) (G .columns) (claim G t i) (challengeAt G x τ) (lineAt w (length v) i) v
-      (omega (arith, lift-small (passed .numbers) (passed .fitted))) (room .columns) vector
-      (λ j l. rw (room .columns, part-of w (i * G .columns) (G .columns) j 0 l) (decoded .claims .each i j row l)))
-
-  operand-side : dotWith (offsetOf (G .bound) u) (lineAt a (length u) i) u ≡ operandSide G t x τ i
-  unfolding operandSide
-  operand-side =
-      side-made (G .bound) (G .inner) (entryA G t i) (productB G t x τ) (lineAt a (length u) i) u
-      (omega (arith, passed .numbers .bound, modulus-above)) (room .inner) product
-      (λ k l. rw (room .inner, part-of a (i * G .inner) (G .inner) k 0 l) (decoded .entries .entry i k row l))
-
-  agrees-balanced : rowAgrees G a w v u i ≡ balanced G t x τ i
-  unfolding balanced
-  agrees-balanced = rw (claim-side, operand-side)
 
 abbrev pub vectorSteps : Setting → List ℕ → List ℕ → Steps
 vectorSteps G t x =
@@ -224,7 +166,7 @@ module _ {G : Setting} {t x : List ℕ} {τ products : ℕ} (ready : VectorReady
           rows-ready =
               let passed = ready .list .passed in
               record {
-                lift-below = rw (same passed) (omega (arith, lift-small (passed .numbers) (passed .fitted)));
+                lift-below = rw (same-setting passed) (omega (arith, lift-small (passed .numbers) (passed .fitted)));
                 bound-below = omega (arith, passed .numbers .bound, modulus-above);
                 vector-x = rw y-is vector;
                 vector-u = product-vector;
@@ -239,10 +181,10 @@ module _ {G : Setting} {t x : List ℕ} {τ products : ℕ} (ready : VectorReady
           unfolding firstRow
           vector-answered {r} e =
               e
-              ∙ (scan-cong (G .rows) _ (balanced G t x τ) _ _
+              ∙ scan-cong (G .rows) _ (balanced G t x τ) _ _
               (λ i l. agrees-balanced (ready .list .passed) decoded x τ y u rooms (λ j m. ap (λ q. getD q j 0) y-is ∙ entries j m) product-made l)
               ∙ scan-by-first (G .rows) (balanced G t x τ) _ _
-              ∙ rw (rooms .columns, rooms .inner, ready .made, counted))
+              ∙ rw (rooms .columns, rooms .inner, ready .made, counted)
             where
               counted : τ * vectorProducts G + G .inner * G .columns + G .rows * (G .columns + G .inner) ≡ (τ + 1) * vectorProducts G
               counted = omega arith

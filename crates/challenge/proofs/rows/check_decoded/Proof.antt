@@ -3,7 +3,7 @@ use borrow.Author.Needs.{needs}
 use mathlib.Core.Path.{sym}
 use lib.Seq.{length-take-le}
 use Rattle.ticket.specs.Laws.Limits.{Sizes}
-use Rattle.challenge.specs.Laws.Vectors.{decoded-by}
+use Rattle.challenge.specs.Laws.Sides.{decoded-by}
 use Rattle.challenge.proofs.rows.check_decoded.Statement.{statement}
 use Rattle.challenge.proofs.rows.check_decoded.Tie as tie
 

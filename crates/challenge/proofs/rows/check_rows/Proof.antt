@@ -23,11 +23,15 @@ start c = c .before .before .before .before .before .before .before .before .bef
 abbrev at : tie.After-check-row Inv-loop μ-loop → tie.At-loop Inv-loop μ-loop
 at c = c .before .before .before .before .before
 
-left : (c : tie.At-loop Inv-loop μ-loop) → c .before .before .before .offset .result ≡ offsetOf (lift (clamped (start c .args .setting))) (start c .args .x .now)
-left c = let made = c .before .before .before in made .offset .ensures ∙ ap (λ s. offsetOf s (start c .args .x .now)) (made .before .lift .ensures)
+left : (c : tie.At-loop Inv-loop μ-loop) → let of = start c .args in
+    c .before .before .before .offset .result ≡ offsetOf (lift (clamped (of .setting))) (of .x .now)
+left c =
+    let made = c .before .before .before in
+    made .offset .ensures ∙ ap (λ s. offsetOf s (start c .args .x .now)) (made .before .lift .ensures)
 
 step : (c : tie.After-check-row Inv-loop μ-loop) → let of = start (at c) .args in
-    c .check-row .result ≡ step-answer (rowSteps (of .setting) (of .a .now) (of .w .now) (of .x .now) (of .u .now) (of .t) (of .products)) (at c .loop .row)
+    c .check-row .result
+    ≡ step-answer (rowSteps (of .setting) (of .a .now) (of .w .now) (of .x .now) (of .u .now) (of .t) (of .products)) (at c .loop .row)
 step c =
     row-step (start (at c) .pre) (at c .loop .inv) (c .before .before .before .if1 .taken) (left (at c)) (at c .before .offset2 .ensures)
     (c .before .before .line .ensures) (c .before .line2 .ensures) (c .check-row .ensures)

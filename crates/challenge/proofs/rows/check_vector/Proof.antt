@@ -1,5 +1,4 @@
 use borrow.Author.Needs.{needs}
-use mathlib.Core.Path.{_≡_}
 use Rattle.challenge.specs.Laws.Vectors.{line-within, line-fits, matrix-ready, rows-ready, vector-answered}
 use Rattle.challenge.proofs.rows.check_vector.Statement.{statement}
 use Rattle.challenge.proofs.rows.check_vector.Tie as tie
@@ -26,15 +25,17 @@ product-requires c κs =
 check-rows-requires : tie.Need-check-rows-requires
 check-rows-requires c κs =
     let made = c .before .before .before .before .before in
-    let at = widened (made .before) .before .before in
-    rows-ready (start at .pre .0) (start at .pre .2) (at .line .ensures) (widened (made .before) .widen .ensures) (made .before .before .before .part .ensures)
+    let wide = widened (made .before) in
+    let at = wide .before .before in
+    rows-ready (start at .pre .0) (start at .pre .2) (at .line .ensures) (wide .widen .ensures) (made .before .before .before .part .ensures)
     (made .product .ensures) (start at .pre .1)
 
 returns : tie.Need-returns
 returns c =
     let made = c .before .before .before .before .before .before in
-    let at = widened (made .before) .before .before in
-    vector-answered (start at .pre .0) (start at .pre .2) (at .line .ensures) (widened (made .before) .widen .ensures) (made .before .before .before .part .ensures)
+    let wide = widened (made .before) in
+    let at = wide .before .before in
+    vector-answered (start at .pre .0) (start at .pre .2) (at .line .ensures) (wide .widen .ensures) (made .before .before .before .part .ensures)
     (made .product .ensures) (start at .pre .1) (c .check-rows .ensures)
 
 pub check-vector-spec : {M : Type 1} → statement M

@@ -5,7 +5,8 @@ use borrow.Author.Needs.{needs}
 use mathlib.Core.Path.{ap, _∙_}
 use Rattle.ticket.specs.Rules.{answer}
 use Rattle.ticket.specs.Laws.Runs.{RunTo, run-none, run-next, run-stopped, run-ended}
-use Rattle.challenge.specs.Laws.Vectors.{Room, vectorSteps, vectors-answer, vector-ready}
+use Rattle.challenge.specs.Laws.Sides.{Room}
+use Rattle.challenge.specs.Laws.Vectors.{vectorSteps, vectors-answer, vector-ready}
 use Rattle.challenge.proofs.rows.check_vectors.Statement.{statement}
 use Rattle.challenge.proofs.rows.check_vectors.Tie as tie
 

@@ -1,0 +1,74 @@
+-- The two sides of a row by the lists that the ticket is decoded to. x is a challenge list, y a vector of it, u its product with B.
+--
+--   Room G y u         y and u have as many numbers as a vector and its product with B
+--   Decoded G t a w    a holds the entries of A with the bound added, w what the claims put for their sums, lifted
+--   same-setting       a ticket that passes has a setting within its limits
+--   entries-size, claims-size   how many entries A has, and how many claims there are
+--   decoded-by         what the decoding calls make of a ticket that passes
+--   agrees-balanced    the two sides of row i agree, as the code compares them, exactly when the row is balanced
+use Prim.Native.Nat.{ℕ, _*_, _≤_, _<_}
+use native.Mathlib.Omega.{arith}
+use mathlib.Core.Path.{_≡_}
+use mathlib.Core.List.{List}
+use lib.ListN.{length, getD}
+use Rattle.residue.specs.Laws.Modulus.{modulus-above}
+use Rattle.algebra.specs.Laws.Fills.{lineAt, part-of}
+use Rattle.ticket.specs.declared.setting.Setting.{Setting}
+use Rattle.ticket.specs.Rules.{lift, halfRange, part, partSize, ofA, ofQuotients, ofRemainders, entryA, claim}
+use Rattle.ticket.specs.Laws.Decodes.{ShiftedList, LiftedList, ShiftedEntries, LiftedClaims, entries-shifted, claims-lifted}
+use Rattle.ticket.specs.Laws.Layout.{partBytes, parts-are}
+use Rattle.ticket.specs.Laws.Limits.{clamped, clamped-same, lift-small}
+use Rattle.ticket.specs.Laws.Passes.{Passed}
+use Rattle.challenge.specs.Rules.{challengeAt, balanced, claimSide, operandSide, productB}
+use Rattle.challenge.specs.Laws.Products.{dotWith, offsetOf, side-made}
+use Rattle.challenge.specs.Laws.Rows.{rowAgrees}
+
+pub record Room (G : Setting) (y u : List ℕ) : Type 0 where
+  pub columns : length y ≡ G .columns
+  pub inner : length u ≡ G .inner
+
+pub record Decoded (G : Setting) (t a w : List ℕ) : Type 0 where
+  pub entries : ShiftedEntries G t a
+  pub claims : LiftedClaims G t w
+
+module _ {G : Setting} {t : List ℕ} (passed : Passed G t) where
+  pub same-setting : clamped G ≡ G
+  same-setting = clamped-same (passed .counts .sizes) (passed .numbers)
+
+  pub entries-size : partSize (part (clamped G) ofA) ≡ G .rows * G .inner
+  entries-size = rw same-setting (parts-are G .size-A)
+
+  pub claims-size : partSize (part (clamped G) ofQuotients) ≡ G .rows * G .columns
+  claims-size = rw same-setting (parts-are G .size-quotients)
+
+  pub decoded-by : {a before-a w before-w b q r : List ℕ} {half : ℕ}
+      → partSize (part (clamped G) ofA) ≤ length before-a → partSize (part (clamped G) ofQuotients) ≤ length before-w
+      → b ≡ partBytes (clamped G) t ofA → q ≡ partBytes (clamped G) t ofQuotients → r ≡ partBytes (clamped G) t ofRemainders
+      → half ≡ halfRange (clamped G) → ShiftedList b (G .bound) before-a a → LiftedList q r half (G .scale) before-w w → Decoded G t a w
+  decoded-by room-a room-w b-is q-is r-is half-is entries claims =
+      record {
+        entries = entries-shifted passed b-is (omega (arith, entries-size)) entries;
+        claims = claims-lifted passed q-is r-is half-is (omega (arith, claims-size)) claims;
+      }
+
+  module _ {a w : List ℕ} (decoded : Decoded G t a w) (x : List ℕ) (τ : ℕ) (y u : List ℕ) (room : Room G y u)
+      (vector : (j : ℕ) → j < G .columns → getD y j 0 ≡ challengeAt G x τ j) (product : (k : ℕ) → k < G .inner → getD u k 0 ≡ productB G t x τ k)
+      {i : ℕ} (row : i < G .rows) where
+    claim-side : dotWith (offsetOf (lift (clamped G)) y) (lineAt w (length y) i) y ≡ claimSide G t x τ i
+    unfolding claimSide
+    claim-side =
+        rw same-setting
+        (side-made (lift G) (G .columns) (claim G t i) (challengeAt G x τ) (lineAt w (length y) i) y
+        (omega (arith, lift-small (passed .numbers) (passed .fitted))) (room .columns) vector
+        (λ j l. rw (room .columns, part-of w (i * G .columns) (G .columns) j 0 l) (decoded .claims .each i j row l)))
+
+    operand-side : dotWith (offsetOf (G .bound) u) (lineAt a (length u) i) u ≡ operandSide G t x τ i
+    unfolding operandSide
+    operand-side =
+        side-made (G .bound) (G .inner) (entryA G t i) (productB G t x τ) (lineAt a (length u) i) u
+        (omega (arith, passed .numbers .bound, modulus-above)) (room .inner) product
+        (λ k l. rw (room .inner, part-of a (i * G .inner) (G .inner) k 0 l) (decoded .entries .entry i k row l))
+
+    pub agrees-balanced : rowAgrees G a w y u i ≡ balanced G t x τ i
+    unfolding balanced
+    agrees-balanced = rw (claim-side, operand-side)
