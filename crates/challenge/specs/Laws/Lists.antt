@@ -2,7 +2,7 @@
 --
 --   number-least          number k of a list passes test 11 exactly when it is a least residue
 --   number-large          where it is not, the test gives 11
---   ListEntries G x       x is a list of s · n least residues
+--   Entries G x           x is a list of s · n least residues
 --   well-formed-is        a list is well formed exactly when it is that
 --   other-length          a list of another length is refused by 10
 --   first-large           the first number that is not a least residue is refused by 11
@@ -36,7 +36,7 @@ module _ (x : List ℕ) (k : ℕ) where
     λ h. rw (lt-ltb (getD x k 0) modulus h),
   )
 
-pub record ListEntries (G : Setting) (x : List ℕ) : Type 0 where
+pub record Entries (G : Setting) (x : List ℕ) : Type 0 where
   pub size : length x ≡ G .vectors * G .columns
   pub below : (k : ℕ) → k < G .vectors * G .columns → getD x k 0 < modulus
 
@@ -48,7 +48,7 @@ module _ (G : Setting) (x : List ℕ) where
   unfolding listReading
   both-tests = unless-zero (eqb (length x) count) (refusal 10 0) (firstRefusal 0 count (listNumber x)) (λ z. omega arith)
 
-  pub well-formed-is : WellFormed G x ↔ ListEntries G x
+  pub well-formed-is : WellFormed G x ↔ Entries G x
   well-formed-is = (
     λ e. let h = both-tests .0 e in
         record {

@@ -54,21 +54,21 @@ module _ {G : Setting} {t : List ℕ} (passed : Passed G t) where
   module _ {a w : List ℕ} (decoded : Decoded G t a w) (x : List ℕ) (τ : ℕ) (y u : List ℕ) (room : Room G y u)
       (vector : (j : ℕ) → j < G .columns → getD y j 0 ≡ challengeAt G x τ j) (product : (k : ℕ) → k < G .inner → getD u k 0 ≡ productB G t x τ k)
       {i : ℕ} (row : i < G .rows) where
-    claim-side : dotWith (offsetOf (lift (clamped G)) y) (lineAt w (length y) i) y ≡ claimSide G t x τ i
+    claims-by : dotWith (offsetOf (lift (clamped G)) y) (lineAt w (length y) i) y ≡ claimSide G t x τ i
     unfolding claimSide
-    claim-side =
+    claims-by =
         rw same-setting
         (side-made (lift G) (G .columns) (claim G t i) (challengeAt G x τ) (lineAt w (length y) i) y
         (omega (arith, lift-small (passed .numbers) (passed .fitted))) (room .columns) vector
         (λ j l. rw (room .columns, part-of w (i * G .columns) (G .columns) j 0 l) (decoded .claims .each i j row l)))
 
-    operand-side : dotWith (offsetOf (G .bound) u) (lineAt a (length u) i) u ≡ operandSide G t x τ i
+    operands-by : dotWith (offsetOf (G .bound) u) (lineAt a (length u) i) u ≡ operandSide G t x τ i
     unfolding operandSide
-    operand-side =
+    operands-by =
         side-made (G .bound) (G .inner) (entryA G t i) (productB G t x τ) (lineAt a (length u) i) u
         (omega (arith, passed .numbers .bound, modulus-above)) (room .inner) product
         (λ k l. rw (room .inner, part-of a (i * G .inner) (G .inner) k 0 l) (decoded .entries .entry i k row l))
 
     pub agrees-balanced : rowAgrees G a w y u i ≡ balanced G t x τ i
     unfolding balanced
-    agrees-balanced = rw (claim-side, operand-side)
+    agrees-balanced = rw (claims-by, operands-by)

@@ -36,18 +36,18 @@ use Rattle.ticket.specs.Laws.Passes.{Passed}
 use Rattle.ticket.specs.Laws.Runs.{Steps, steps-answer, step-answer, RunTo}
 use Rattle.ticket.specs.Laws.Scans.{scan-cong, scan-by-first}
 use Rattle.challenge.specs.Rules.{challengeAt, balanced, productB, firstRow, vectorProducts, caught, verdict}
-use Rattle.challenge.specs.Laws.Lists.{ListEntries}
+use Rattle.challenge.specs.Laws.Lists.{Entries}
 use Rattle.challenge.specs.Laws.Products.{ResidueVector, ProductReady, rowsTimes, dotOf}
 use Rattle.challenge.specs.Laws.Rows.{RowsReady, rowSteps, line-inside}
 use Rattle.challenge.specs.Laws.Sides.{Room, Decoded, same-setting, entries-size, claims-size, agrees-balanced}
 
 pub record ListReady (G : Setting) (t x : List ℕ) : Type 0 where
   pub passed : Passed G t
-  pub list : ListEntries G x
+  pub list : Entries G x
   pub entries-few : partSize (part (clamped G) ofA) ≤ mostRows * mostInner
   pub claims-few : partSize (part (clamped G) ofQuotients) ≤ mostRows * mostColumns
 
-pub list-ready : {G : Setting} {t x : List ℕ} → Passed G t → ListEntries G x → ListReady G t x
+pub list-ready : {G : Setting} {t x : List ℕ} → Passed G t → Entries G x → ListReady G t x
 list-ready passed list =
     record {
       passed = passed;

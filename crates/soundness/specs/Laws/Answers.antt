@@ -1,8 +1,8 @@
 -- Every answer of the challenge check is a row of the published table, and is given exactly under its condition (C2).
 --
---   answer c k i n      the answer of these four numbers
 --   TableRow G a        the answer a is a row of the table, within its bounds
---   Balances G t x      the tests before pass, and every row of every vector balances
+--   AllBalanced G t x   every row is balanced for every vector of the list x
+--   Balances G t x      the tests before pass, and so it is
 --   Caught G t x τ i    the tests before pass, and row i of vector τ is the first that does not balance
 --   Answered G t x a    the condition of the answer a, no earlier test failing
 --   answer-of           where that condition holds, a is the answer
@@ -12,43 +12,42 @@
 --   accepted-number     an answer with number 0 is that one
 --   caught-exactly      the answer is caught G τ i exactly when row i of vector τ is the first that does not balance
 --   answer-in-table     every answer is a row of the table
-use Prim.Native.Nat.{ℕ, _+_, _*_, _≤_, _<_}
+use Prim.Native.Nat.{ℕ, _*_, _≤_, _<_}
 use native.Mathlib.Decide.{ℕ-discrete, decLe}
 use native.Mathlib.Omega.{arith}
 use mathlib.Core.Path.{_≡_, refl, sym, ap, _∙_}
 use mathlib.Core.Bool.{true, false, true≢false}
 use mathlib.Core.Logic.{⊎-elim, _↔_}
 use mathlib.Core.List.{List}
-use borrow.Author.Tests.{lt-ltb, le-ltb, eq-eqb, ne-eqb, eqb-true}
+use borrow.Author.Tests.{eq-eqb, ne-eqb, eqb-true}
 use lib.Dec.{eqb}
 use lib.ListN.{length, getD}
 use Rattle.residue.specs.Rules.{modulus}
 use Rattle.ticket.specs.declared.setting.Setting.{Setting}
 use Rattle.ticket.specs.declared.Answer.{Answer}
-use Rattle.ticket.specs.Rules.{refusal, reading, Passes}
-use Rattle.ticket.specs.Laws.First.{first-none, first-is, first-before, FirstFailure, holds-or-first}
-use Rattle.ticket.specs.Laws.Scans.{refusal-none, refusal-is, after-passed, after-refused, zeros-or-first}
+use Rattle.ticket.specs.Rules.{answer, refusal, Passes}
+use Rattle.ticket.specs.Laws.Answers.{first-past}
+use Rattle.ticket.specs.Laws.First.{first-is, FirstFailure, holds-or-first}
+use Rattle.ticket.specs.Laws.Scans.{scan-none, scan-is, zeros-or-first}
 use Rattle.ticket.specs.Laws.Refusals.{Refused, passed-reading, passed-or-refused, refused-reading, refused-number, ReadingRow, refused-in-table}
-use Rattle.challenge.specs.Rules.{listNumber, listReading, WellFormed, balanced, firstRow, firstVector, accepted, caught, verdict, challengeCheck, Accepted}
-
-abbrev pub answer : ℕ → ℕ → ℕ → ℕ → Answer
-answer number place row products = record { number = number; place = place; row = row; products = products }
+use Rattle.challenge.specs.Rules.{challengeProducts, caughtProducts, listNumber, WellFormed, balanced, firstRow, accepted, caught, verdict, challengeCheck, Accepted}
+use Rattle.challenge.specs.Laws.Checks.{check-ticket, check-list, check-rows}
+use Rattle.challenge.specs.Laws.Lists.{number-least, well-formed-is, other-length, first-large}
 
 pub data TableRow (G : Setting) : Answer → Type 0 where
-  accepted-row : TableRow G (answer 0 0 0 (G .vectors * (G .inner * G .columns + G .rows * G .columns + G .rows * G .inner)))
+  accepted-row : TableRow G (answer 0 0 0 (challengeProducts G))
   reading-row : {a : Answer} → ReadingRow G a → TableRow G a
   list-length-row : TableRow G (answer 10 0 0 0)
   list-number-row : (k : ℕ) → k < G .vectors * G .columns → TableRow G (answer 11 k 0 0)
-  caught-row : (τ i : ℕ) → τ < G .vectors → i < G .rows
-      → TableRow G (answer 12 τ i (
-      τ * (G .inner * G .columns + G .rows * G .columns + G .rows * G .inner) + G .inner * G .columns
-      + (i + 1) * (G .columns + G .inner)
-      ))
+  caught-row : (τ i : ℕ) → τ < G .vectors → i < G .rows → TableRow G (answer 12 τ i (caughtProducts G τ i))
+
+abbrev pub AllBalanced : Setting → List ℕ → List ℕ → Type 0
+AllBalanced G t x = (τ i : ℕ) → τ < G .vectors → i < G .rows → balanced G t x τ i ≡ true
 
 pub record Balances (G : Setting) (t x : List ℕ) : Type 0 where
   pub ticket : Passes G t
   pub list : WellFormed G x
-  pub balance : (τ i : ℕ) → τ < G .vectors → i < G .rows → balanced G t x τ i ≡ true
+  pub balance : AllBalanced G t x
 
 pub record Caught (G : Setting) (t x : List ℕ) (τ i : ℕ) : Type 0 where
   pub ticket : Passes G t
@@ -67,76 +66,43 @@ pub data Answered (G : Setting) (t x : List ℕ) : Answer → Type 0 where
   first-unbalanced : {τ i : ℕ} → Caught G t x τ i → Answered G t x (caught G τ i)
   all-balanced : Balances G t x → Answered G t x (accepted G)
 
-module _ (x : List ℕ) (k : ℕ) where
-  number-small : getD x k 0 < modulus → listNumber x k ≡ 0
-  unfolding listNumber
-  number-small l = rw (lt-ltb (getD x k 0) modulus l)
-
-  number-large : modulus ≤ getD x k 0 → listNumber x k ≡ 11
-  unfolding listNumber
-  number-large l = rw (le-ltb (getD x k 0) modulus l)
-
-  small-of : listNumber x k ≡ 0 → getD x k 0 < modulus
-  small-of e = elim (decLe modulus (getD x k 0)) [ yes l ↦ absurd (omega (arith, number-large l)) | no l ↦ omega arith ]
-
-  large-of : (listNumber x k ≡ 0 → ⊥) → modulus ≤ getD x k 0
-  large-of d = elim (decLe modulus (getD x k 0)) [ yes l ↦ l | no l ↦ absurd (d (number-small (omega arith))) ]
-
 module _ (G : Setting) (t x : List ℕ) where
-  -- after the tests of the ticket, and after those of the list
-  list-next : Passes G t → (listReading G x .number ≡ 0 → ⊥) → challengeCheck G t x ≡ listReading G x
-  unfolding challengeCheck
-  list-next p d = after-passed (reading G t) _ p ∙ after-refused (listReading G x) (verdict G t x) d
-
-  verdict-next : Passes G t → WellFormed G x → challengeCheck G t x ≡ verdict G t x
-  unfolding challengeCheck
-  verdict-next p w = after-passed (reading G t) _ p ∙ after-passed (listReading G x) (verdict G t x) w
-
-  vector-balances : (τ : ℕ) → ((i : ℕ) → i < G .rows → balanced G t x τ i ≡ true) → eqb (firstRow G t x τ) (G .rows) ≡ true
+  -- no row of vector τ is first to be out of balance exactly when all are balanced
+  rows-balanced : (τ : ℕ) → (eqb (firstRow G t x τ) (G .rows) ≡ true) ↔ ((i : ℕ) → i < G .rows → balanced G t x τ i ≡ true)
   unfolding firstRow
-  vector-balances τ h = eq-eqb _ _ (first-none (G .rows) (balanced G t x τ) h)
+  rows-balanced τ = (
+    λ e. first-past (G .rows) (balanced G t x τ) .0 (eqb-true _ _ e),
+    λ h. eq-eqb _ _ (first-past (G .rows) (balanced G t x τ) .1 h),
+  )
+
+  verdict-accepted : AllBalanced G t x → verdict G t x ≡ accepted G
+  unfolding verdict
+  verdict-accepted b = scan-none (G .vectors) _ _ _ (λ τ l. rows-balanced τ .1 (λ i. b τ i l))
+
+  verdict-caught : {τ i : ℕ} → Caught G t x τ i → verdict G t x ≡ caught G τ i
+  unfolding verdict firstRow
+  verdict-caught {τ} {i} c =
+      let row : firstRow G t x τ ≡ i = first-is (G .rows) i (balanced G t x τ) (c .row-within) (c .rows-before) (c .unbalanced) in
+      scan-is (G .vectors) τ _ _ _ (c .vector-within) (λ σ l. rows-balanced σ .1 (λ j. c .vectors-before σ j l))
+      (ne-eqb (firstRow G t x τ) (G .rows) (λ e. omega (arith, c .row-within, row)))
+      ∙ ap (caught G τ) row
 
   pub answer-of : {a : Answer} → Answered G t x a → challengeCheck G t x ≡ a
-  unfolding challengeCheck listReading verdict firstVector firstRow
-  answer-of (refused {c} {k} r) =
-      let e : reading G t ≡ refusal c k = refused-reading G t r in
-      after-refused (reading G t) _ (λ z. omega (arith, refused-number G t r, ap (λ a. a .number) e)) ∙ e
-  answer-of (list-length p d) =
-      let e : listReading G x ≡ refusal 10 0 = rw (ne-eqb (length x) (G .vectors * G .columns) d) in
-      list-next p (λ z. omega (arith, ap (λ a. a .number) e)) ∙ e
-  answer-of (list-number {k} p e l h m) =
-      let other : listNumber x k ≡ 11 = number-large x k m in
-      let first : listReading G x ≡ refusal 11 k =
-      rw (eq-eqb (length x) (G .vectors * G .columns) e)
-      (refusal-is 0 (G .vectors * G .columns) k (listNumber x) l (λ i m. number-small x i (h i m)) (λ z. omega arith)
-      ∙ ap (λ c. refusal c (0 + k)) other ∙ ap (refusal 11) (omega arith)) in
-      list-next p (λ z. omega (arith, ap (λ a. a .number) first)) ∙ first
-  answer-of (first-unbalanced {τ} {i} c) =
-      let row : firstRow G t x τ ≡ i = first-is (G .rows) i (balanced G t x τ) (c .row-within) (c .rows-before) (c .unbalanced) in
-      let vector : firstVector G t x ≡ τ =
-      first-is (G .vectors) τ (λ τ. eqb (firstRow G t x τ) (G .rows)) (c .vector-within)
-      (λ σ l. vector-balances σ (λ j. c .vectors-before σ j l))
-      (ne-eqb (firstRow G t x τ) (G .rows) (λ e. omega (arith, c .row-within, row, e))) in
-      verdict-next (c .ticket) (c .list) ∙ rw (vector, row, ne-eqb τ (G .vectors) (λ e. omega (arith, c .vector-within)))
-  answer-of (all-balanced b) =
-      let vector : firstVector G t x ≡ G .vectors =
-      first-none (G .vectors) (λ τ. eqb (firstRow G t x τ) (G .rows)) (λ τ l. vector-balances τ (λ i. b .balance τ i l)) in
-      verdict-next (b .ticket) (b .list) ∙ rw (vector, eq-eqb (G .vectors) (G .vectors) refl)
+  answer-of (refused r) = sym (check-ticket G t x (sym (refused-reading G t r)) (λ z. omega (arith, refused-number G t r)))
+  answer-of (list-length p d) = sym (check-list G t x refl p (sym (other-length G x d)) (λ z. omega arith))
+  answer-of (list-number p e l h m) = sym (check-list G t x refl p (sym (first-large G x e _ l h m)) (λ z. omega arith))
+  answer-of (first-unbalanced c) = sym (check-rows G t x refl (c .ticket) refl (c .list) (sym (verdict-caught c)))
+  answer-of (all-balanced b) = sym (check-rows G t x refl (b .ticket) refl (b .list) (sym (verdict-accepted (b .balance))))
 
   -- a vector that has a row that does not balance has a first one
   first-row : (τ : ℕ) → eqb (firstRow G t x τ) (G .rows) ≡ false → (i : ℕ) × FirstFailure (G .rows) (balanced G t x τ) i
   first-row τ e =
-      ⊎-elim (λ h. absurd (true≢false (sym (vector-balances τ h) ∙ e))) (λ f. f) (holds-or-first (G .rows) (balanced G t x τ))
-
-  rows-balance : (τ : ℕ) → eqb (firstRow G t x τ) (G .rows) ≡ true → (i : ℕ) → i < G .rows → balanced G t x τ i ≡ true
-  unfolding firstRow
-  rows-balance τ e i l =
-      first-before (G .rows) i (balanced G t x τ) (omega (arith, eqb-true (firstRow G t x τ) (G .rows) e))
+      ⊎-elim (λ h. absurd (true≢false (sym (rows-balanced τ .1 h) ∙ e))) (λ f. f) (holds-or-first (G .rows) (balanced G t x τ))
 
   answered-vectors : Passes G t → WellFormed G x → (a : Answer) × Answered G t x a
   answered-vectors p w =
       ⊎-elim
-      (λ h. (accepted G, all-balanced (record { ticket = p; list = w; balance = λ τ i l. rows-balance τ (h τ l) i })))
+      (λ h. (accepted G, all-balanced (record { ticket = p; list = w; balance = λ τ i l. rows-balanced τ .0 (h τ l) i })))
       (λ v. let r = first-row (v .0) (v .1 .fails) in (
         caught G (v .0) (r .0),
         first-unbalanced (record {
@@ -144,7 +110,7 @@ module _ (G : Setting) (t x : List ℕ) where
           list = w;
           vector-within = v .1 .within;
           row-within = r .1 .within;
-          vectors-before = λ σ j l. rows-balance σ (v .1 .before σ l) j;
+          vectors-before = λ σ j l. rows-balanced σ .0 (v .1 .before σ l) j;
           rows-before = r .1 .before;
           unbalanced = r .1 .fails;
         }),
@@ -152,20 +118,16 @@ module _ (G : Setting) (t x : List ℕ) where
       (holds-or-first (G .vectors) (λ τ. eqb (firstRow G t x τ) (G .rows)))
 
   answered-list : Passes G t → (a : Answer) × Answered G t x a
-  unfolding listReading
   answered-list p =
       elim (ℕ-discrete (length x) (G .vectors * G .columns)) [
         | no d ↦ (refusal 10 0, list-length p d)
         | yes e ↦
             ⊎-elim
-            (λ z. let none : listReading G x ≡ refusal 0 0 =
-            rw (eq-eqb (length x) (G .vectors * G .columns) e) (refusal-none 0 (G .vectors * G .columns) (listNumber x) z) in
-            answered-vectors p (ap (λ a. a .number) none))
-            (λ o. (
-              refusal 11 (o .0),
-              list-number p e (o .1 .within) (λ i l. small-of x i (o .1 .before i l))
-                  (large-of x (o .0) (o .1 .other)),
-            ))
+            (λ z. answered-vectors p (well-formed-is G x .1 record { size = e; below = λ k l. number-least x k .0 (z k l) }))
+            (λ o. let k = o .0 in
+            let large : modulus ≤ getD x k 0 =
+            elim (decLe modulus (getD x k 0)) [ yes m ↦ m | no m ↦ absurd (o .1 .other (number-least x k .1 (omega arith))) ] in
+            (refusal 11 k, list-number p e (o .1 .within) (λ i l. number-least x i .0 (o .1 .before i l)) large))
             (zeros-or-first (G .vectors * G .columns) (listNumber x))
       ]
 

@@ -5,6 +5,7 @@
 --   shifted-below, size-quotient   a shifted quotient is in its range, and a quotient is at most half of it in size
 --   remainder-below, small-remainder   a remainder is a natural number below the scale
 --   claim-is, due-is           what a claim puts for its sum, and what it is compared with, written out
+--   exactSum-is                an exact sum is an entry of the product of the two matrices
 --   size-sum-of                an exact sum of entries within the bound is at most as large as a sum can be
 --   size-due                   so is what a claim is compared with
 --   claims-close               a claim and what it is compared with are less than p apart
@@ -23,6 +24,7 @@ use Rattle.residue.specs.Rules.{modulus, leastResidue}
 use Rattle.residue.specs.Laws.Integers.{positive, negative, parts-difference}
 use Rattle.residue.specs.Laws.Residues.{residue-of-entry, residue-of-residue, residue-shift}
 use Rattle.residue.specs.Laws.Modulus.{modulus-positive}
+use Rattle.algebra.specs.Rules.{matrixProduct}
 use Rattle.algebra.specs.Laws.IntegerSums.{size-sum, size-difference, size-product}
 use Rattle.algebra.specs.Laws.MatrixProducts.{size-matrixProduct}
 use Rattle.ticket.specs.declared.setting.Setting.{Setting}
@@ -142,3 +144,7 @@ claim-decided G t i j = elim (ℤ-discrete (claim G t i j) (due G t i j)) [ yes 
 pub claims-true : (G : Setting) (t : List ℕ) → ((j : ℕ) → FalseIn G t j → ⊥)
     → (i j : ℕ) → i < G .rows → j < G .columns → claim G t i j ≡ due G t i j
 claims-true G t none i j l m = ⊎-elim (λ e. e) (λ d. absurd (none j (m, (i, l, d)))) (claim-decided G t i j)
+
+pub exactSum-is : (G : Setting) (A B : ℕ → ℕ → ℤ) (i j : ℕ) → exactSum G A B i j ≡ matrixProduct (G .inner) A B i j
+unfolding exactSum
+exactSum-is G A B i j = refl
