@@ -22,7 +22,7 @@ pub(crate) fn read_list(setting: Setting, list: &[u32]) -> Answer
     }
     let mut k: u32 = 0;
     while k < count {
-        if !Residue(list[k as usize]).is_least() {
+        if Residue::modulus() <= list[k as usize] {
             return Answer {
                 number: 11,
                 place: k,

@@ -3,8 +3,7 @@ use Prim.Native.Nat.{ℕ, _-_, _≤_, _<_}
 use native.Mathlib.Omega.{arith}
 use borrow.Author.Count.{below-more}
 use borrow.Author.Needs.{needs}
-use borrow.Author.Tests.{ltb-true, ltb-false, not-true, not-false}
-use mathlib.Core.Path.{sym, _∙_}
+use mathlib.Core.Path.{sym}
 use lib.ListN.{getD}
 use Rattle.residue.specs.Rules.{modulus}
 use Rattle.challenge.specs.Laws.Lists.{other-length, first-large, all-least}
@@ -25,14 +24,14 @@ loop-holds c = (omega arith, λ i l. omega arith)
 
 returns-2 : tie.Need-returns-2 Inv-loop μ-loop
 returns-2 c =
-    let at = c .before .before .before .before in
-    let large = ltb-false _ _ (sym (c .before .is-least .ensures) ∙ not-true _ (c .if2 .taken)) in
-    sym (first-large _ _ (at .before .if1 .left) _ (c .before .before .before .loop-test .taken) (at .loop .inv .1) large)
+    let in-loop = c .before .before .before in
+    let at = in-loop .before in
+    sym (first-large _ _ (at .before .if1 .left) _ (in-loop .loop-test .taken) (at .loop .inv .1) (omega arith))
 
 loop-again : tie.Need-loop-again Inv-loop μ-loop
 loop-again c =
     let at = c .before .before .before .before in
-    (omega arith, below-more _ _ (at .loop .inv .1) (ltb-true _ _ (sym (c .before .is-least .ensures) ∙ not-false _ (c .if2 .left))))
+    (omega arith, below-more _ _ (at .loop .inv .1) (omega arith))
 
 returns-3 : tie.Need-returns-3 Inv-loop μ-loop
 returns-3 c = sym (all-least _ _ (c .before .before .if1 .left) (λ i l. c .before .loop .inv .1 i (omega arith)))
@@ -40,5 +39,5 @@ returns-3 c = sym (all-least _ _ (c .before .before .if1 .left) (λ i l. c .befo
 pub read-list-spec : {M : Type 1} → statement M
 read-list-spec =
     tie.close
-    (tie.spec Inv-loop μ-loop (λ c. omega arith) (λ c. omega arith) returns loop-holds (λ c. omega arith) (λ c. omega arith)
-    (λ c. omega arith) (λ c κs. search needs) returns-2 (λ c. omega arith) (λ c. omega arith) loop-again returns-3)
+    (tie.spec Inv-loop μ-loop (λ c. omega arith) (λ c. omega arith) returns loop-holds (λ c κs. search needs) (λ c. omega arith)
+    (λ c. omega arith) (λ c. omega arith) returns-2 (λ c. omega arith) (λ c. omega arith) loop-again returns-3)
