@@ -44,9 +44,12 @@ mul-result c =
     let of = start (c .before .before .before .before) .args in
     rw (made (c .before)) (omega (arith, offset-small (of .shift) (length (of .vector .now)) (λ i. getD (of .vector .now) i 0)))
 
+returns : tie.Need-returns Inv-loop μ-loop
+returns c = made (c .before)
+
 pub offset-spec : {M : Type 1} → statement M
 offset-spec =
     tie.close
     (tie.spec Inv-loop μ-loop loop-holds (λ c. omega arith) (λ c. omega arith) add-sum (λ c. omega arith) (λ c. omega arith)
     loop-again (λ c κs. search needs) (λ c. omega arith) sub-negative (λ c κs. search needs) (λ c. omega arith) mul-result
-    (λ c. made (c .before)))
+    returns)

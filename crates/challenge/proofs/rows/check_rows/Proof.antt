@@ -71,9 +71,12 @@ loop-again c =
     let checked = c .before .before in
     run-next (at checked .loop .inv) (checked .before .before .before .if1 .taken) (step checked) (c .if2 .left)
 
+returns-2 : tie.Need-returns-2 Inv-loop μ-loop
+returns-2 c = run-ended (c .before .before .loop .inv) (c .if1 .left)
+
 pub check-rows-spec : {M : Type 1} → statement M
 check-rows-spec =
     tie.close
     (tie.spec Inv-loop μ-loop (λ c κs. search needs) offset-requires (λ c. omega arith) offset-requires-2 loop-holds line-requires
     line-requires-2 check-row-requires returns (λ c. omega arith) (λ c. omega arith) loop-again
-    (λ c. run-ended (c .before .before .loop .inv) (c .if1 .left)))
+    returns-2)
