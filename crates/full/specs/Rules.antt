@@ -17,7 +17,7 @@ use lib.Dec.{eqb}
 use lib.IntN.{ℤ, pos, negsuc}
 use Rattle.ticket.specs.declared.setting.Setting.{Setting}
 use Rattle.ticket.specs.declared.Answer.{Answer}
-use Rattle.ticket.specs.Rules.{first, unless, after, reading, claim, exactSum}
+use Rattle.ticket.specs.Rules.{answer, scan, after, reading, sumProducts, claim, due}
 
 unfoldable pub same : ℤ → ℤ → Bool
 same (pos a) (pos b) = eqb a b
@@ -29,18 +29,16 @@ unfoldable pub holds : Setting → List ℕ → ℕ → Bool
 holds G t c =
     let i = c / G .columns in
     let j = c % G .columns in
-    same (claim G t i j) (exactSum G t i j)
+    same (claim G t i j) (due G t i j)
 
 abbrev pub untrue : Setting → ℕ → Answer
-untrue G c = record { number = 16; place = c; row = 0; products = G .inner * (c + 1) }
+untrue G c = answer 16 c 0 (G .inner * (c + 1))
 
 abbrev pub fullAccepted : Setting → Answer
-fullAccepted G = record { number = 0; place = 0; row = 0; products = G .rows * G .inner * G .columns }
+fullAccepted G = answer 0 0 0 (sumProducts G)
 
 unfoldable pub fullVerdict : Setting → List ℕ → Answer
-fullVerdict G t =
-    let c = first (G .rows * G .columns) (holds G t) in
-    unless (eqb c (G .rows * G .columns)) (untrue G c) (fullAccepted G)
+fullVerdict G t = scan (G .rows * G .columns) (holds G t) (untrue G) (fullAccepted G)
 
 unfoldable pub fullCheck : Setting → List ℕ → Answer
 fullCheck G t = after (reading G t) (fullVerdict G t)

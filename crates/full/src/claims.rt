@@ -1,196 +1,140 @@
 // Test 16: every claim, row by row.
 ghost use mathlib.Core.Path.{_≡_};
-ghost use Prim.Native.Nat.{_+_, _-_, _*_, _%_, _≤_, _<_};
+ghost use Prim.Native.Nat.{_≤_};
 ghost use lib.ListN.{length};
-ghost use Rattle.residue.specs.Rules.{modulus};
-ghost use Rattle.ticket.specs.Laws.Decodes.{ClaimsReady, liftedClaim, Shiftable};
-ghost use Rattle.ticket.specs.Laws.Fills.{Filled};
+ghost use Rattle.ticket.specs.Rules.{first};
+ghost use Rattle.ticket.specs.Laws.All.{all};
 ghost use Rattle.ticket.specs.Laws.Passes.{Passed};
+ghost use Rattle.ticket.specs.Laws.Runs.{steps-answer};
 ghost use Rattle.full.specs.Rules.{fullVerdict};
-ghost use Rattle.full.specs.Laws.Claims.{compareAnswer, comparedAnswer, ComparedTo, CompareReady, Room, RowCompared};
-use crate::operands::columns;
-use crate::operands::rows;
-use crate::operands::value;
-use residue::Residue;
+ghost use Rattle.full.specs.Laws.Sums.{claimedFor, sumSteps, SumsReady, RowReady, RowCompared};
+ghost use Rattle.full.specs.Laws.Claims.{Space};
 use ticket::Answer;
-use ticket::RECORD;
+use ticket::PartNumber;
 use ticket::Setting;
 
-// The most entries of an operand.
+// The most entries of an operand, and the most claims; the most sums of a row.
 const ENTRIES: usize = (Setting::MOST_ROWS * Setting::MOST_INNER) as usize;
 
-// The most claims.
 const CLAIMS: usize = (Setting::MOST_ROWS * Setting::MOST_COLUMNS) as usize;
 
-// Tickets of at most so many entries and claims are worked through in small arrays, which take little time to clear.
-const FEW: usize = 192;
+const ROW: usize = Setting::MOST_COLUMNS as usize;
 
-// 2^31, which is p + 1.
-const WRAP: u32 = 2_147_483_648;
-
-// 2^30, above the values that stand for no negative number.
-const TOP: u32 = 1_073_741_824;
+// Tickets whose operands and claims are at most so many are worked through in arrays of this length, which take little time to clear.
+const SMALL: usize = 64;
 
 // All claims, one after the other, up to the first untrue one.
 pub(crate) fn check_claims(setting: Setting, ticket: &[u8]) -> Answer
     requires { ⌜ Passed setting (now ticket) ⌝ }
     ensures { λ r. ⌜ r ≡ fullVerdict setting (now (ticket .entry)) ⌝ }
 {
-    let entries = setting.rows * setting.inner + setting.inner * setting.columns;
-    if entries + setting.rows * setting.columns <= (FEW as u32) {
-        return check_few(setting, ticket);
+    let small = SMALL as u32;
+    if (setting.size(PartNumber::A) <= small)
+        && (setting.size(PartNumber::B) <= small)
+        && (setting.size(PartNumber::QUOTIENTS) <= small)
+    {
+        return check_small(setting, ticket);
     }
-    check_many(setting, ticket)
+    check_large(setting, ticket)
 }
 
-fn check_few(setting: Setting, ticket: &[u8]) -> Answer
-    requires { ⌜ Passed setting (now ticket) × (setting .rows * setting .inner + setting .inner * setting .columns + setting .rows * setting .columns ≤ 192) ⌝ }
+fn check_small(setting: Setting, ticket: &[u8]) -> Answer
+    requires { ⌜ Passed setting (now ticket) × Space setting 64 64 64 ⌝ }
     ensures { λ r. ⌜ r ≡ fullVerdict setting (now (ticket .entry)) ⌝ }
 {
-    let mut a = [0; FEW];
-    let mut b = [0; FEW];
-    let mut claims = [0; FEW];
-    compare_claims(setting, ticket, &mut a, &mut b, &mut claims)
+    let mut rows = [0; SMALL];
+    let mut columns = [0; SMALL];
+    let mut claims = [0; SMALL];
+    decode_and_compare(setting, ticket, &mut rows, &mut columns, &mut claims)
 }
 
-fn check_many(setting: Setting, ticket: &[u8]) -> Answer
+fn check_large(setting: Setting, ticket: &[u8]) -> Answer
     requires { ⌜ Passed setting (now ticket) ⌝ }
     ensures { λ r. ⌜ r ≡ fullVerdict setting (now (ticket .entry)) ⌝ }
 {
-    let mut a = [0; ENTRIES];
-    let mut b = [0; ENTRIES];
+    let mut rows = [0; ENTRIES];
+    let mut columns = [0; ENTRIES];
     let mut claims = [0; CLAIMS];
-    compare_claims(setting, ticket, &mut a, &mut b, &mut claims)
+    decode_and_compare(setting, ticket, &mut rows, &mut columns, &mut claims)
 }
 
-// The same, with room for the operands and the claims. Sums and claims are lifted by 2^(v - 1) times the scale, so that none is
-// negative; both are then known from their value modulo 2^32.
-fn compare_claims(
+// The same, with room for the rows of A, the columns of B and the claims. The rows of B stand where those of A do after them, until
+// they are turned.
+fn decode_and_compare(
     setting: Setting,
     ticket: &[u8],
-    a: &mut [i16],
-    b: &mut [i16],
+    rows: &mut [i16],
+    columns: &mut [i16],
     claims: &mut [u32],
 ) -> Answer
-    requires { ⌜ Passed setting (now ticket) × Room setting (length (now a)) (length (now b)) (length (now claims)) ⌝ }
+    requires { ⌜ Passed setting (now ticket) × Space setting (length (now rows)) (length (now columns)) (length (now claims)) ⌝ }
     ensures { λ r. ⌜ r ≡ fullVerdict setting (now (ticket .entry)) ⌝ }
 {
-    let inner = setting.inner as usize;
+    let a = ticket::part(setting, ticket, PartNumber::A);
+    let b = ticket::part(setting, ticket, PartNumber::B);
+    let quotients = ticket::part(setting, ticket, PartNumber::QUOTIENTS);
+    let remainders = ticket::part(setting, ticket, PartNumber::REMAINDERS);
+    ticket::narrow_entries(b, rows);
+    exact::turn(rows, setting.inner as u16, setting.columns as u16, columns);
+    ticket::narrow_entries(a, rows);
+    ticket::lifted_claims(quotients, remainders, setting.half(), setting.scale, claims);
     let width = setting.columns as usize;
-    let of_a = (setting.rows as usize) * inner;
-    let of_b = inner * width;
-    let count = (setting.rows as usize) * width;
-    let from_b = RECORD * of_a;
-    let from_quotients = RECORD * (of_a + of_b);
-    let from_remainders = RECORD * (of_a + of_b + count);
-    let half = Residue::power_of_two(setting.width - 1).0;
-    rows(ticket, of_a, a);
-    columns(&ticket[from_b..], inner, width, b);
-    lift(
-        &ticket[from_quotients..],
-        &ticket[from_remainders..],
-        count,
-        half,
-        setting.scale,
-        claims,
-    );
-    compare(a, b, &claims[..count], inner, width, half * setting.scale)
+    let mut sums = [0; ROW];
+    compare(setting, rows, columns, claims, &mut sums[..width])
 }
 
-// What each claim puts for its sum, lifted: the quotient, with half of the quotients' range added, times the scale, and the remainder.
-fn lift(quotients: &[u8], remainders: &[u8], count: usize, half: u32, scale: u32, list: &mut [u32])
-    requires { ⌜ ClaimsReady (now quotients) (now remainders) count half scale (length (now list)) ⌝ }
-    ensures { λ r. ⌜ Filled 0 (length (now (list .entry))) count (liftedClaim (now (quotients .entry)) (now (remainders .entry)) half scale) (now (list .exit)) ⌝ }
-{
-    let mut c = 0;
-    while c < count {
-        list[c] = shifted(value(quotients, c), half) * scale + value(remainders, c);
-        c += 1;
-    }
-}
-
-// A value with a shift added, modulo p, where the result is below 2^30: a value from 2^30 on passes p, and 1 more passes 2^31.
-fn shifted(value: u32, shift: u32) -> u32
-    requires { ⌜ Shiftable shift value ⌝ }
-    ensures { λ r. ⌜ r ≡ (value + shift) % modulus ⌝ }
-{
-    (value + shift + value / TOP) % WRAP
-}
-
-// Each sum, row by row, against its claim. The products made are counted in the answer.
+// Each sum, row by row, against its claim, with room for the sums of a row. Sums and claims are lifted, so that none is negative; both
+// are then known from their value modulo 2^32.
 fn compare(
+    setting: Setting,
     rows: &[i16],
     columns: &[i16],
     claims: &[u32],
-    inner: usize,
-    width: usize,
-    lift: u32,
+    sums: &mut [u32],
 ) -> Answer
-    requires { ⌜ CompareReady (now rows) (now columns) (now claims) inner width ⌝ }
-    ensures { λ r. ⌜ r ≡ compareAnswer (now (rows .entry)) (now (columns .entry)) (now (claims .entry)) inner width lift ⌝ }
+    requires { ⌜ SumsReady setting (now rows) (now columns) (now claims) (length (now sums)) ⌝ }
+    ensures { λ r. ⌜ r ≡ steps-answer (sumSteps setting (now (rows .entry)) (now (columns .entry)) (now (claims .entry))) ⌝ }
 {
+    let lift = setting.lift() as u32;
     let mut answer = Answer::PASSED;
-    let mut row = 0;
-    let mut c = 0;
-    while c < claims.len() {
-        answer = compare_row(rows, columns, claims, inner, width, lift, row, answer);
+    let mut row: u32 = 0;
+    while row < setting.rows {
+        answer = compare_row(setting, rows, columns, claims, sums, lift, row, answer);
         if answer.number != 0 {
             return answer;
         }
         row += 1;
-        c += width;
     }
     answer
 }
 
-// The sums of one row, after the answer of the rows before it.
+// The sums of one row, after the answer of the rows before it. The products made are counted in the answer.
 fn compare_row(
+    setting: Setting,
     rows: &[i16],
     columns: &[i16],
     claims: &[u32],
-    inner: usize,
-    width: usize,
+    sums: &mut [u32],
     lift: u32,
-    row: usize,
+    row: u32,
     before: Answer,
 ) -> Answer
-    requires { ⌜ CompareReady (now rows) (now columns) (now claims) inner width × (row * width + width ≤ length (now claims)) × ComparedTo (now rows) (now columns) (now claims) inner width lift (row * width) before ⌝ }
-    ensures { λ r. ⌜ RowCompared (now (rows .entry)) (now (columns .entry)) (now (claims .entry)) inner width lift (row * width + width) r ⌝ }
+    requires { ⌜ RowReady setting (now rows) (now columns) (now claims) (length (now sums)) lift row before ⌝ }
+    ensures { λ r. ⌜ RowCompared setting (now (rows .entry)) (now (columns .entry)) (now (claims .entry)) row r ⌝ }
 {
-    let at = row * inner;
-    let entries = &rows[at..at + inner];
-    let start = row * width;
-    let mut answer = before;
-    let mut column = 0;
-    while column < width {
-        let from = column * inner;
-        let sum = exact::dot(entries, &columns[from..from + inner]);
-        let c = start + column;
-        let made = answer.products + (inner as u32);
-        answer = compared(
-            std::num::wrapping_add_u32(sum, lift),
-            claims[c],
-            c as u32,
-            made,
-        );
-        if answer.number != 0 {
-            return answer;
-        }
-        column += 1;
-    }
-    answer
-}
-
-// One sum against its claim, after the products made so far.
-fn compared(sum: u32, claimed: u32, place: u32, products: u32) -> Answer
-    ensures { λ r. ⌜ r ≡ comparedAnswer sum claimed place products ⌝ }
-{
-    if sum != claimed {
+    let inner = setting.inner as usize;
+    let width = setting.columns as usize;
+    let at = (row as usize) * inner;
+    let start = (row as usize) * width;
+    exact::row_sums(&rows[at..at + inner], columns, sums);
+    let count = agreeing(sums, &claims[start..start + width], lift);
+    let products = before.products + ((inner * count) as u32);
+    if count < width {
         return Answer {
             number: 16,
-            place,
+            place: (start + count) as u32,
             row: 0,
-            products,
+            products: products + setting.inner,
         };
     }
     Answer {
@@ -199,4 +143,36 @@ fn compared(sum: u32, claimed: u32, place: u32, products: u32) -> Answer
         row: 0,
         products,
     }
+}
+
+// How many of the sums are what is claimed for them, up to the first that is not. All are tested without a branch first; one by one
+// only where that fails.
+fn agreeing(sums: &[u32], claims: &[u32], lift: u32) -> usize
+    requires { ⌜ length (now sums) ≤ length (now claims) ⌝ }
+    ensures { λ r. ⌜ r ≡ first (length (now (sums .entry))) (claimedFor (now (sums .entry)) (now (claims .entry)) lift) ⌝ }
+{
+    if all_agree(sums, claims, lift) {
+        return sums.len();
+    }
+    let mut j = 0;
+    while j < sums.len() {
+        if std::num::wrapping_add_u32(sums[j], lift) != claims[j] {
+            return j;
+        }
+        j += 1;
+    }
+    j
+}
+
+fn all_agree(sums: &[u32], claims: &[u32], lift: u32) -> bool
+    requires { ⌜ length (now sums) ≤ length (now claims) ⌝ }
+    ensures { λ r. ⌜ r ≡ all (length (now (sums .entry))) (claimedFor (now (sums .entry)) (now (claims .entry)) lift) ⌝ }
+{
+    let mut all = true;
+    let mut j = 0;
+    while j < sums.len() {
+        all = all & (std::num::wrapping_add_u32(sums[j], lift) == claims[j]);
+        j += 1;
+    }
+    all
 }

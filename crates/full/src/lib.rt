@@ -5,7 +5,6 @@ use ticket::Answer;
 use ticket::Setting;
 
 mod claims;
-mod operands;
 
 // The answer of the full check, for every setting and all bytes.
 pub fn check(setting: Setting, ticket: &[u8]) -> Answer

@@ -7,9 +7,10 @@
 --   position-within    an element of the matrix is in one of its rows
 --   row-of, column-of  row and column by division
 --   row-inside         a row ends before the matrix does
+--   by-rows            what holds of each row and column holds of each element
 use Prim.Native.Nat.{ℕ, _+_, _*_, _/_, _%_, _≤_, _<_}
 use native.Mathlib.Decide.{decLe}
-use native.Mathlib.Nat.{mul-le-mul-right}
+use native.Mathlib.Nat.{mul-le-mul-right, div-add-mod', div-lt-iff-lt-mul, mod-lt}
 use native.Mathlib.Omega.{arith}
 use lib.Arith.{digits-div, digits-mod}
 use mathlib.Core.Path.{_≡_, sym, ap, _∙_}
@@ -49,3 +50,8 @@ module _ {columns i row column : ℕ} (at : Position columns i row column) where
 
 pub row-inside : {rows k : ℕ} (n : ℕ) → k < rows → k * n + n ≤ rows * n
 row-inside {rows} {k} n l = omega (arith, mul-le-mul-right n l)
+
+pub by-rows : (Q : ℕ → Type 0) {rows : ℕ} (columns : ℕ) → 0 < columns → ((i j : ℕ) → i < rows → j < columns → Q (i * columns + j))
+    → (k : ℕ) → k < rows * columns → Q k
+by-rows Q columns wide h k l =
+    rw (div-add-mod' k columns) at (h (k / columns) (k % columns) (div-lt-iff-lt-mul wide .1 l) (mod-lt k wide))

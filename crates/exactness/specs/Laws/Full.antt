@@ -23,20 +23,19 @@ use mathlib.Core.Path.{_≡_, refl, sym, ap, _∙_}
 use mathlib.Core.Bool.{true, false, true≢false}
 use mathlib.Core.Logic.{⊎-elim, _↔_}
 use mathlib.Core.List.{List}
-use borrow.Author.Tests.{eq-eqb, ne-eqb}
 use lib.Arith.{digits-lt, digits-div, digits-mod}
-use lib.IntN.{pos, _+ℤ_, _-ℤ_, _*ℤ_, +ℤ-comm, +ℤ-negℤ-cancel, -ℤ-+ℤ-cancel}
+use lib.IntN.{ℤ, pos, _+ℤ_, _-ℤ_, _*ℤ_, +ℤ-comm, +ℤ-negℤ-cancel, -ℤ-+ℤ-cancel}
 use Rattle.algebra.specs.Rules.{floorDivision}
 use Rattle.algebra.specs.Laws.FloorDivision.{floor-unique}
+use Rattle.algebra.specs.Laws.Positions.{by-rows}
 use Rattle.ticket.specs.declared.setting.Setting.{Setting}
 use Rattle.ticket.specs.declared.Answer.{Answer}
-use Rattle.ticket.specs.Rules.{first, refusal, reading, Passes, remainders, valueIn, quotient, remainder, claim, exactSum, Untrue, FalseIn}
-use Rattle.ticket.specs.Laws.First.{first-none, first-is, holds-or-first}
-use Rattle.ticket.specs.Laws.Scans.{after-passed, after-refused}
+use Rattle.ticket.specs.Rules.{answer, refusal, reading, Passes, quotient, remainder, claim, due, Untrue, FalseIn}
+use Rattle.ticket.specs.Laws.First.{holds-or-first}
+use Rattle.ticket.specs.Laws.Scans.{scan-none, scan-is, after-passed, after-refused}
 use Rattle.ticket.specs.Laws.Passes.{passed-of}
-use Rattle.ticket.specs.Laws.Differences.{small-remainder, claims-true}
+use Rattle.ticket.specs.Laws.Differences.{claim-is, small-remainder, claims-true}
 use Rattle.ticket.specs.Laws.Refusals.{Refused, passed-reading, passed-or-refused, refused-reading, refused-number, ReadingRow, refused-in-table}
-use Rattle.soundness.specs.Laws.Answers.{answer}
 use Rattle.full.specs.Rules.{holds, untrue, fullAccepted, fullVerdict, fullCheck, FullAccepted}
 use Rattle.full.specs.Laws.Same.{same-equal, same-other, equal-of-same}
 
@@ -50,13 +49,13 @@ pub record FirstUntrue (G : Setting) (t : List ℕ) (i j : ℕ) : Type 0 where
   pub ticket : Passes G t
   pub row-within : i < G .rows
   pub column-within : j < G .columns
-  pub rows-before : (k l : ℕ) → k < i → l < G .columns → claim G t k l ≡ exactSum G t k l
-  pub columns-before : (l : ℕ) → l < j → claim G t i l ≡ exactSum G t i l
+  pub rows-before : (k l : ℕ) → k < i → l < G .columns → claim G t k l ≡ due G t k l
+  pub columns-before : (l : ℕ) → l < j → claim G t i l ≡ due G t i l
   pub untrue-here : Untrue G t i j
 
 pub record AllTrue (G : Setting) (t : List ℕ) : Type 0 where
   pub ticket : Passes G t
-  pub claims : (i j : ℕ) → i < G .rows → j < G .columns → claim G t i j ≡ exactSum G t i j
+  pub claims : (i j : ℕ) → i < G .rows → j < G .columns → claim G t i j ≡ due G t i j
 
 pub data FullAnswered (G : Setting) (t : List ℕ) : Answer → Type 0 where
   refused : {c k : ℕ} → Refused G t c k → FullAnswered G t (refusal c k)
@@ -64,11 +63,11 @@ pub data FullAnswered (G : Setting) (t : List ℕ) : Answer → Type 0 where
   all-true : AllTrue G t → FullAnswered G t (fullAccepted G)
 
 pub record FloorClaim (G : Setting) (t : List ℕ) (i j : ℕ) : Type 0 where
-  pub quotient-is : quotient G t i j ≡ floorDivision (exactSum G t i j) (G .scale)
-  pub remainder-is : remainder G t i j ≡ exactSum G t i j -ℤ pos (G .scale) *ℤ quotient G t i j
+  pub quotient-is : quotient G t i j ≡ floorDivision (due G t i j) (G .scale)
+  pub remainder-is : remainder G t i j ≡ due G t i j -ℤ pos (G .scale) *ℤ quotient G t i j
 
 module _ (G : Setting) (t : List ℕ) where
-  pub holds-exactly : (i j : ℕ) → j < G .columns → (holds G t (i * G .columns + j) ≡ true) ↔ (claim G t i j ≡ exactSum G t i j)
+  pub holds-exactly : (i j : ℕ) → j < G .columns → (holds G t (i * G .columns + j) ≡ true) ↔ (claim G t i j ≡ due G t i j)
   unfolding holds
   holds-exactly i j l = rw (digits-div i l, digits-mod i l) (equal-of-same _ _, same-equal _ _)
 
@@ -76,40 +75,27 @@ module _ (G : Setting) (t : List ℕ) where
   unfolding fullCheck
   verdict-next p = after-passed (reading G t) (fullVerdict G t) p
 
-  -- claim c is in row c / n, column c % n
-  module _ (p : Passes G t) (c : ℕ) where
-    some-column : 0 < G .columns
-    some-column = passed-of G t p .counts .sizes .columns .0
-
-    column-of : c % G .columns < G .columns
-    column-of = mod-lt c some-column
-
-    row-of : {r : ℕ} → c < r * G .columns → c / G .columns < r
-    row-of l = div-lt-iff-lt-mul some-column .1 l
+  some-column : Passes G t → 0 < G .columns
+  some-column p = passed-of G t p .counts .sizes .columns .0
 
   -- every claim before the first untrue one holds
   holds-before : {i j : ℕ} → FirstUntrue G t i j → (c : ℕ) → c < i * G .columns + j → holds G t c ≡ true
-  unfolding holds
   holds-before {i} {j} u c l =
-      let p = u .ticket in
-      let split = div-add-mod' c (G .columns) in
-      let row : c / G .columns < i + 1 = row-of p c (omega (arith, u .column-within)) in
-      same-equal _ _ (elim (ℕ-discrete (c / G .columns) i) [
-        | yes e ↦ rw e (u .columns-before (c % G .columns) (omega (arith, rw e at split)))
-        | no d ↦ u .rows-before (c / G .columns) (c % G .columns) (omega arith) (column-of p c)
-      ])
+      by-rows (λ c. c < i * G .columns + j → holds G t c ≡ true) {rows = i + 1} (G .columns) (some-column (u .ticket))
+      (λ k m row column below. holds-exactly k m column .1 (elim (ℕ-discrete k i) [
+        | yes e ↦ rw e (u .columns-before m (omega (arith, ap (λ n. n * G .columns) e)))
+        | no d ↦ u .rows-before k m (omega arith) column
+      ]))
+      c (omega (arith, u .column-within)) l
 
   fails : {i j : ℕ} → FirstUntrue G t i j → holds G t (i * G .columns + j) ≡ false
   unfolding holds
   fails {i} {j} u =
       rw (digits-div i (u .column-within), digits-mod i (u .column-within))
-      (same-other (claim G t i j) (exactSum G t i j) (u .untrue-here))
+      (same-other (claim G t i j) (due G t i j) (u .untrue-here))
 
   all-hold : AllTrue G t → (c : ℕ) → c < G .rows * G .columns → holds G t c ≡ true
-  unfolding holds
-  all-hold a c l =
-      let p = a .ticket in
-      same-equal _ _ (a .claims (c / G .columns) (c % G .columns) (row-of p c l) (column-of p c))
+  all-hold a = by-rows (λ c. holds G t c ≡ true) (G .columns) (some-column (a .ticket)) (λ i j l m. holds-exactly i j m .1 (a .claims i j l m))
 
   pub full-answer-of : {a : Answer} → FullAnswered G t a → fullCheck G t ≡ a
   unfolding fullCheck fullVerdict
@@ -117,15 +103,11 @@ module _ (G : Setting) (t : List ℕ) where
       let e : reading G t ≡ refusal c k = refused-reading G t r in
       after-refused (reading G t) _ (λ z. omega (arith, refused-number G t r, ap (λ a. a .number) e)) ∙ e
   full-answer-of (first-untrue {i} {j} u) =
-      let n = G .rows * G .columns in
-      let c = i * G .columns + j in
-      let within : c < n = digits-lt (u .row-within) (u .column-within) in
-      let place : first n (holds G t) ≡ c = first-is n c (holds G t) within (holds-before u) (fails u) in
-      verdict-next (u .ticket) ∙ rw (place, ne-eqb c n (λ e. omega arith))
+      let within = digits-lt (u .row-within) (u .column-within) in
+      verdict-next (u .ticket)
+      ∙ scan-is (G .rows * G .columns) (i * G .columns + j) (holds G t) (untrue G) (fullAccepted G) within (holds-before u) (fails u)
   full-answer-of (all-true a) =
-      let n = G .rows * G .columns in
-      let none : first n (holds G t) ≡ n = first-none n (holds G t) (all-hold a) in
-      verdict-next (a .ticket) ∙ rw (none, eq-eqb n n refl)
+      verdict-next (a .ticket) ∙ scan-none (G .rows * G .columns) (holds G t) (untrue G) (fullAccepted G) (all-hold a)
 
   answered-claims : Passes G t → (a : Answer) × FullAnswered G t a
   unfolding holds
@@ -138,15 +120,15 @@ module _ (G : Setting) (t : List ℕ) where
       (λ f. let c = f .0 in
       let i = c / G .columns in
       let j = c % G .columns in
-      let split = div-add-mod' c (G .columns) in (
+      let split = div-add-mod' c (G .columns) in
+      let inside : j < G .columns = mod-lt c (some-column p) in (
         untrue G (i * G .columns + j),
         first-untrue (record {
           ticket = p;
-          row-within = row-of p c (f .1 .within);
-          column-within = column-of p c;
+          row-within = div-lt-iff-lt-mul (some-column p) .1 (f .1 .within);
+          column-within = inside;
           rows-before = λ k l b m. holds-exactly k l m .0 (f .1 .before (k * G .columns + l) (omega (arith, digits-lt b m)));
-          columns-before =
-              λ l b. holds-exactly i l (omega (arith, column-of p c)) .0 (f .1 .before (i * G .columns + l) (omega arith));
+          columns-before = λ l b. holds-exactly i l (omega arith) .0 (f .1 .before (i * G .columns + l) (omega arith));
           untrue-here = λ e. true≢false (sym (same-equal _ _ e) ∙ f .1 .fails);
         }),
       ))
@@ -191,26 +173,27 @@ module _ (G : Setting) (t : List ℕ) where
     λ h. full-accepted-claims .1 (record { ticket = h .0; claims = claims-true G t (h .1) }),
   )
 
-  floor-claim : {i j : ℕ} → valueIn t (remainders G) i j < G .scale → claim G t i j ≡ exactSum G t i j → FloorClaim G t i j
-  unfolding claim remainder
-  floor-claim {i} {j} l e =
-      let scaled = pos (G .scale) *ℤ quotient G t i j in
-      record {
-        quotient-is = floor-unique (exactSum G t i j) (quotient G t i j) (G .scale) (valueIn t (remainders G) i j) l e;
-        remainder-is = sym (+ℤ-negℤ-cancel _ scaled) ∙ ap (λ z. z -ℤ scaled) (+ℤ-comm (remainder G t i j) scaled ∙ e);
-      }
+  module _ (i j : ℕ) where
+    abbrev scaled : ℤ
+    scaled = pos (G .scale) *ℤ quotient G t i j
 
-  claim-of-floor : {i j : ℕ} → FloorClaim G t i j → claim G t i j ≡ exactSum G t i j
-  unfolding claim
-  claim-of-floor {i} {j} f =
-      let scaled = pos (G .scale) *ℤ quotient G t i j in
-      ap (λ z. scaled +ℤ z) (f .remainder-is)
-      ∙ +ℤ-comm scaled (exactSum G t i j -ℤ scaled)
-      ∙ -ℤ-+ℤ-cancel (exactSum G t i j) scaled
+    floor-claim : (r : ℕ) × (r < G .scale) × (remainder G t i j ≡ pos r) → claim G t i j ≡ due G t i j → FloorClaim G t i j
+    floor-claim left e =
+        let sum : scaled +ℤ remainder G t i j ≡ due G t i j = sym (claim-is G t i j) ∙ e in
+        record {
+          quotient-is = floor-unique (due G t i j) (quotient G t i j) (G .scale) (left .0) (left .1) (rw (left .2) at sum);
+          remainder-is = sym (+ℤ-negℤ-cancel _ scaled) ∙ ap (λ z. z -ℤ scaled) (+ℤ-comm (remainder G t i j) scaled ∙ sum);
+        }
+
+    claim-of-floor : FloorClaim G t i j → claim G t i j ≡ due G t i j
+    claim-of-floor f =
+        claim-is G t i j ∙ ap (λ z. scaled +ℤ z) (f .remainder-is)
+        ∙ +ℤ-comm scaled (due G t i j -ℤ scaled)
+        ∙ -ℤ-+ℤ-cancel (due G t i j) scaled
 
   pub full-accepted-exactly : FullAccepted G t ↔ (Passes G t × ((i j : ℕ) → i < G .rows → j < G .columns → FloorClaim G t i j))
   full-accepted-exactly = (
     λ e. let a = full-accepted-claims .0 e in
-        (a .ticket, λ i j l m. floor-claim (small-remainder (passed-of G t (a .ticket)) i j l m) (a .claims i j l m)),
-    λ h. full-accepted-claims .1 (record { ticket = h .0; claims = λ i j l m. claim-of-floor (h .1 i j l m) }),
+        (a .ticket, λ i j l m. floor-claim i j (small-remainder (passed-of G t (a .ticket)) i j l m) (a .claims i j l m)),
+    λ h. full-accepted-claims .1 (record { ticket = h .0; claims = λ i j l m. claim-of-floor i j (h .1 i j l m) }),
   )

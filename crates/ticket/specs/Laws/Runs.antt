@@ -9,15 +9,17 @@
 --   run-stopped      a step that fails
 --   run-ended        after the last step
 --   run-at           the same run by another count of its steps
-use Prim.Native.Nat.{ℕ, _+_, _≤_, _<_}
-use native.Mathlib.Decide.{ℕ-discrete}
+--   run-several, run-breaks   several steps at once, tested by f: they hold, or the first of them that fails
+--   RunPast S i a    a is the answer of the steps before i where they hold, else that of all steps
+use Prim.Native.Nat.{ℕ, _+_, _-_, _≤_, _<_}
+use native.Mathlib.Decide.{ℕ-discrete, decLe}
 use native.Mathlib.Omega.{arith}
 use mathlib.Core.Logic.{⊎-elim}
 use mathlib.Core.Path.{_≡_, sym, ap, _∙_}
 use mathlib.Core.Bool.{Bool, true}
 use Rattle.ticket.specs.declared.Answer.{Answer}
-use Rattle.ticket.specs.Rules.{unless, scan}
-use Rattle.ticket.specs.Laws.First.{true-or-false}
+use Rattle.ticket.specs.Rules.{first, unless, scan}
+use Rattle.ticket.specs.Laws.First.{true-or-false, first-within, first-before, first-at}
 use Rattle.ticket.specs.Laws.Scans.{scan-none, scan-is}
 
 pub record Steps : Type 0 where
@@ -70,3 +72,34 @@ module _ {S : Steps} {i : ℕ} {a : Answer} (run : RunTo S i a) where
 
   pub run-at : {k : ℕ} → k ≡ i → RunTo S k a
   run-at e = rw e run
+
+pub record RunPast (S : Steps) (i : ℕ) (a : Answer) : Type 0 where
+  pub passing : a .number ≡ 0 → RunTo S i a
+  pub stopping : (a .number ≡ 0 → ⊥) → a ≡ steps-answer S
+
+module _ {S : Steps} {i n k : ℕ} {a : Answer} (run : RunTo S i a) (inside : i + n ≤ S .count) (f : ℕ → Bool)
+    (alike : (j : ℕ) → j < n → f j ≡ S .holds (i + j)) (k-is : k ≡ first n f) where
+  -- the steps before the first of these that fails
+  before-first : (j : ℕ) → j < i + k → S .holds j ≡ true
+  before-first j l =
+      elim (decLe i j) [
+        | yes past ↦
+            let same : i + (j - i) ≡ j = omega arith in
+            rw same at (sym (alike (j - i) (omega (arith, first-within n f))) ∙ first-before n (j - i) f (omega arith))
+        | no early ↦ run .before j (omega arith)
+      ]
+
+  pub run-several : {b : Answer} → n ≤ k → b ≡ S .so-far (i + n) → RunPast S (i + n) b
+  run-several l e =
+      record {
+        passing = λ z. record { within = inside; before = λ j m. before-first j (omega arith); answer-is = e };
+        stopping = λ d. absurd (d (ap (λ x. x .number) e ∙ S .passed (i + n)));
+      }
+
+  pub run-breaks : {b : Answer} → k < n → b ≡ S .failed (i + k) → RunPast S (i + n) b
+  run-breaks l e =
+      let fails : f k ≡ false = rw k-is (first-at n f (omega arith)) in
+      record {
+        passing = λ z. absurd (S .other (i + k) (sym (ap (λ x. x .number) e) ∙ z));
+        stopping = λ d. e ∙ sym (scan-is (S .count) (i + k) (S .holds) (S .failed) _ (omega arith) before-first (sym (alike k l) ∙ fails));
+      }

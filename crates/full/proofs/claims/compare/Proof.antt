@@ -1,59 +1,78 @@
-use Prim.Native.Nat.{_+_, _-_, _*_, _≤_}
+-- The loop keeps that the sums of the rows before this one agree with their claims, with the answer so far.
+use Prim.Native.Nat.{_+_, _-_, _*_, _^_, _≤_, _<_}
+use native.Mathlib.Nat.{mul-le-mul-right}
 use native.Mathlib.Omega.{arith}
-use mathlib.Core.Path.{_≡_}
+use mathlib.Core.Path.{_≡_, refl, ap, _∙_}
 use lib.ListN.{length}
-use Rattle.ticket.specs.Laws.Positions.{Position, position-of, position-within, row-inside}
-use Rattle.full.specs.Laws.Claims.{ComparedTo, compared-at, compared-none, compared-ended}
+use Rattle.residue.specs.Laws.Modulus.{modulus-below}
+use Rattle.ticket.specs.Rules.{answer, lift}
+use Rattle.ticket.specs.Laws.Limits.{lift-small, clamped-same}
+use Rattle.ticket.specs.Laws.Runs.{RunTo, run-none, run-ended, run-at}
+use Rattle.full.specs.Laws.Sums.{sumSteps, row-ready}
+use borrow.Author.Needs.{needs}
 use Rattle.full.proofs.claims.compare.Statement.{statement}
 use Rattle.full.proofs.claims.compare.Tie as tie
 
 abbrev Inv-loop : tie.InvT-loop
-Inv-loop rows columns claims inner width lift answer₀ row₀ c₀ answer row c = (c ≤ length claims) × (c ≡ row * width) × ComparedTo rows columns claims inner width lift c answer
+Inv-loop setting rows columns claims sums₀ lifting answer₀ row₀ sums answer row =
+    (length sums ≡ length sums₀) × RunTo (sumSteps setting rows columns claims) (row * setting .columns) answer × (row ≤ setting .rows)
 
 abbrev μ-loop : tie.MeasureT-loop
-μ-loop rows columns claims inner width lift answer₀ row₀ c₀ answer row c = length claims - c
+μ-loop setting rows columns claims sums₀ lifting answer₀ row₀ sums answer row = setting .rows - row
 
-at-row : (c : tie.In-loop Inv-loop μ-loop) → Position (c .before .before .before .args .width) (c .before .loop .row * c .before .before .before .args .width + 0) (c .before .loop .row) 0
-at-row c = position-of (c .before .loop .row) (omega (arith, c .before .before .before .pre .columns))
+-- the call, when the lift is made
+abbrev start : tie.After-lift Inv-loop μ-loop → tie.Start Inv-loop μ-loop
+start c = c .before .before .before
 
-inside : (c : tie.In-loop Inv-loop μ-loop) → c .before .loop .row * c .before .before .before .args .width + c .before .before .before .args .width ≤ length (c .before .before .before .args .claims .now)
-inside c = omega (arith, row-inside (c .before .before .before .args .width) (position-within (at-row c) {rows = c .before .before .before .pre .height} (omega (arith, c .loop-test .taken, c .before .loop .inv .1, c .before .before .before .pre .count))), c .before .before .before .pre .count)
+-- the lift that the code adds is the rule's, and small
+lifting : (c : tie.After-lift Inv-loop μ-loop) → (c .lift .result ≡ lift (start c .args .setting)) × (c .lift .result < 2 ^ 31)
+lifting c =
+    let limits = start c .pre .limits in
+    let same = c .lift .ensures ∙ ap lift (clamped-same (limits .sizes) (limits .numbers)) in
+    (same, omega (arith, same, lift-small (limits .numbers) (limits .fitted), modulus-below))
+
+lift-requires : tie.Need-lift-requires Inv-loop μ-loop
+lift-requires c κs = search needs
+
+cast-lift : tie.Need-cast-lift Inv-loop μ-loop
+cast-lift c = omega (arith, lifting c)
 
 loop-holds : tie.Need-loop-holds Inv-loop μ-loop
-loop-holds c = (omega arith, omega arith, compared-none _ _ _ _ _ _)
+loop-holds c = (refl, run-at (run-none (ap (answer 0 0 0) (omega arith))) (omega arith), omega arith)
 
 compare-row-requires : tie.Need-compare-row-requires Inv-loop μ-loop
-compare-row-requires c κs = (c .before .before .before .pre, inside c, compared-at _ _ _ _ _ _ (omega (arith, c .before .loop .inv .1)) (c .before .loop .inv .2))
+compare-row-requires c κs =
+    let at = c .before .before .before in
+    row-ready (rw (at .loop .inv .0) (start (at .before) .pre)) (lifting (at .before) .0) (c .before .if1 .taken) (at .loop .inv .1)
+
+same-length : tie.Need-same-length Inv-loop μ-loop
+same-length c = search needs
 
 returns : tie.Need-returns Inv-loop μ-loop
-returns c = c .before .before .compare-row .ensures .stopped (c .if1 .taken)
+returns c = c .before .before .before .before .compare-row .ensures .stopping (c .if2 .taken)
 
 add-row : tie.Need-add-row Inv-loop μ-loop
-add-row c = omega (arith, at-row (c .before .before .before) .row-small, inside (c .before .before .before), c .before .before .before .before .before .before .pre .few)
-
-add-c : tie.Need-add-c Inv-loop μ-loop
-add-c c = omega (arith, inside (c .before .before .before), c .before .before .before .before .loop .inv .1, c .before .before .before .before .before .before .pre .few)
+add-row c = omega arith
 
 loop-less : tie.Need-loop-less Inv-loop μ-loop
-loop-less c = omega (arith, inside (c .before .before .before), c .before .before .before .before .loop .inv .1, c .before .before .before .before .before .before .pre .columns)
+loop-less c = omega arith
 
 loop-again : tie.Need-loop-again Inv-loop μ-loop
-loop-again c = (omega (arith, inside (c .before .before .before), c .before .before .before .before .loop .inv .1), omega (arith, c .before .before .before .before .loop .inv .1), compared-at _ _ _ _ _ _ (omega (arith, c .before .before .before .before .loop .inv .1)) (c .before .before .compare-row .ensures .passed (c .if1 .left)))
+loop-again c =
+    let past = c .before .before .before .before .compare-row .ensures .passing (c .if2 .left) in
+    (omega arith, run-at past (omega arith), omega arith)
+
+same-length-2 : tie.Need-same-length-2 Inv-loop μ-loop
+same-length-2 c = c .before .before .loop .inv .0
 
 returns-2 : tie.Need-returns-2 Inv-loop μ-loop
-returns-2 c = compared-ended _ _ _ _ _ _ (omega (arith, c .before .loop .inv .0)) (c .before .loop .inv .2)
+returns-2 c =
+    let at = c .before .before in
+    let G = start (at .before) .args .setting in
+    run-ended (at .loop .inv .1) (mul-le-mul-right (G .columns) (c .if1 .left))
 
 pub compare-spec : {M : Type 1} → statement M
 compare-spec =
     tie.close
-    (tie.spec
-    Inv-loop
-    μ-loop
-    loop-holds
-    compare-row-requires
-    returns
-    add-row
-    add-c
-    loop-less
-    loop-again
-    returns-2)
+    (tie.spec Inv-loop μ-loop lift-requires cast-lift loop-holds compare-row-requires same-length returns add-row loop-less
+    loop-again same-length-2 returns-2)

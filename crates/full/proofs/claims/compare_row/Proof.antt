@@ -1,151 +1,107 @@
-use Prim.Native.Nat.{_+_, _-_, _*_, _≤_, _<_}
+use Prim.Native.Nat.{_*_, _≤_}
 use native.Mathlib.Omega.{arith}
-use mathlib.Core.Path.{ap}
+use mathlib.Core.Path.{refl}
+use Rattle.full.specs.Laws.Sums.{few-agree, row-untrue, row-true}
 use borrow.Author.Needs.{needs}
-use lib.ListN.{length}
-use Rattle.ticket.specs.Laws.Positions.{position-of}
-use Rattle.full.specs.Laws.Claims.{ComparedTo, LinesInside, lines-inside, compared-products, compared-at, compared-more, compared-stopped}
 use Rattle.full.proofs.claims.compare_row.Statement.{statement}
 use Rattle.full.proofs.claims.compare_row.Tie as tie
 
-abbrev Inv-loop : tie.InvT-loop
-Inv-loop rows columns claims inner width lift row at entries start answer₀ column₀ answer column = (column ≤ width) × ComparedTo rows columns claims inner width lift (row * width + column) answer
+-- the call, and the sums, when it is known how many agree
+abbrev summed : tie.After-agreeing → tie.After-row-sums
+summed c = c .before .before .before .before .before
 
-abbrev μ-loop : tie.MeasureT-loop
-μ-loop rows columns claims inner width lift row at entries start answer₀ column₀ answer column = width - column
+abbrev start : tie.After-agreeing → tie.Start
+start c = summed c .before .before .before .before .before .before .before
 
-row-there : (c : tie.Start Inv-loop μ-loop) → LinesInside (c .args .rows .now) (c .args .columns .now) (c .args .inner) (c .args .row) 0
-row-there c = lines-inside (c .pre .0) (omega (arith, c .pre .1, c .pre .0 .columns)) (position-of (c .args .row) (omega (arith, c .pre .0 .columns)))
+few : (c : tie.After-agreeing) → let G = start c .args .setting in
+    (c .agreeing .result ≤ G .columns) × (G .inner * c .agreeing .result ≤ G .inner * G .columns)
+few c = few-agree (start c .pre) refl (summed c .row-sums .ensures) (c .agreeing .ensures)
 
-within : (c : tie.In-loop Inv-loop μ-loop) → c .before .before .before .before .args .row * c .before .before .before .before .args .width + c .before .loop .column < length (c .before .before .before .before .args .claims .now)
-within c = omega (arith, c .before .before .before .before .pre .1, c .loop-test .taken)
+cast-inner : tie.Need-cast-inner
+cast-inner c = search needs
 
-lines : (c : tie.In-loop Inv-loop μ-loop) → LinesInside (c .before .before .before .before .args .rows .now) (c .before .before .before .before .args .columns .now) (c .before .before .before .before .args .inner) (c .before .before .before .before .args .row) (c .before .loop .column)
-lines c = lines-inside (c .before .before .before .before .pre .0) (within c) (position-of (c .before .before .before .before .args .row) (c .loop-test .taken))
+cast-width : tie.Need-cast-width
+cast-width c = search needs
 
-mul-at : tie.Need-mul-at Inv-loop μ-loop
-mul-at c = omega (arith, row-there (c .before))
+mul-at : tie.Need-mul-at
+mul-at c = omega arith
 
-add-entries : tie.Need-add-entries Inv-loop μ-loop
-add-entries c = omega (arith, row-there (c .before))
+mul-start : tie.Need-mul-start
+mul-start c = search needs
 
-mul-entries : tie.Need-mul-entries Inv-loop μ-loop
-mul-entries c = omega (arith, row-there (c .before))
+add-row-sums : tie.Need-add-row-sums
+add-row-sums c = omega arith
 
-sub-entries : tie.Need-sub-entries Inv-loop μ-loop
-sub-entries c = omega (arith, row-there (c .before))
+mul-row-sums : tie.Need-mul-row-sums
+mul-row-sums c = omega arith
 
-part-entries-start : tie.Need-part-entries-start Inv-loop μ-loop
-part-entries-start c = omega (arith, row-there (c .before))
+sub-row-sums : tie.Need-sub-row-sums
+sub-row-sums c = search needs
 
-part-entries-end : tie.Need-part-entries-end Inv-loop μ-loop
-part-entries-end c = omega (arith, row-there (c .before))
+part-row-sums-start : tie.Need-part-row-sums-start
+part-row-sums-start c = search needs
 
-mul-start : tie.Need-mul-start Inv-loop μ-loop
-mul-start c = omega (arith, c .before .before .pre .1, c .before .before .pre .0 .few)
+part-row-sums-end : tie.Need-part-row-sums-end
+part-row-sums-end c = omega arith
 
-loop-holds : tie.Need-loop-holds Inv-loop μ-loop
-loop-holds c = (omega arith, compared-at _ _ _ _ _ _ (omega arith) (c .before .before .pre .2))
+row-sums-requires : tie.Need-row-sums-requires
+row-sums-requires c κs = search needs
 
-mul-from : tie.Need-mul-from Inv-loop μ-loop
-mul-from c = omega (arith, lines c)
+add-agreeing : tie.Need-add-agreeing
+add-agreeing c = search needs
 
-add-dot : tie.Need-add-dot Inv-loop μ-loop
-add-dot c = omega (arith, lines c)
+mul-agreeing : tie.Need-mul-agreeing
+mul-agreeing c = search needs
 
-mul-dot : tie.Need-mul-dot Inv-loop μ-loop
-mul-dot c = omega (arith, lines c)
+sub-agreeing : tie.Need-sub-agreeing
+sub-agreeing c = search needs
 
-sub-dot : tie.Need-sub-dot Inv-loop μ-loop
-sub-dot c = omega (arith, lines c)
+part-agreeing-start : tie.Need-part-agreeing-start
+part-agreeing-start c = search needs
 
-part-dot-start : tie.Need-part-dot-start Inv-loop μ-loop
-part-dot-start c = omega (arith, lines c)
+part-agreeing-end : tie.Need-part-agreeing-end
+part-agreeing-end c = omega arith
 
-part-dot-end : tie.Need-part-dot-end Inv-loop μ-loop
-part-dot-end c = omega (arith, lines c)
+agreeing-requires : tie.Need-agreeing-requires
+agreeing-requires c κs = search needs
 
-dot-requires : tie.Need-dot-requires Inv-loop μ-loop
-dot-requires c κs = search needs
+mul-products : tie.Need-mul-products
+mul-products c = omega (arith, few c)
 
-add-c : tie.Need-add-c Inv-loop μ-loop
-add-c c = omega (arith, within (c .before .before), c .before .before .before .before .before .before .pre .0 .few)
+cast-products : tie.Need-cast-products
+cast-products c = omega (arith, few c)
 
-cast-made : tie.Need-cast-made Inv-loop μ-loop
-cast-made c = omega (arith, c .before .before .before .before .before .before .pre .0 .narrow)
+add-products : tie.Need-add-products
+add-products c = omega (arith, few (c .before))
 
-add-made : tie.Need-add-made Inv-loop μ-loop
-add-made c = omega (arith, compared-products _ _ _ _ _ _ (c .before .before .before .before .before .before .before .pre .0) (within (c .before .before .before)) (c .before .before .before .before .loop .inv .1))
+add-t31 : tie.Need-add-t31
+add-t31 c = search needs
 
-wrapping-add-u32-requires : tie.Need-wrapping-add-u32-requires Inv-loop μ-loop
-wrapping-add-u32-requires c κs = search needs
+cast-t32 : tie.Need-cast-t32
+cast-t32 c = omega (arith, few (c .before .before))
 
-mul-compared : tie.Need-mul-compared Inv-loop μ-loop
-mul-compared c = omega (arith, within (c .before .before .before .before), c .before .before .before .before .before .before .before .before .pre .0 .few)
+add-t33 : tie.Need-add-t33
+add-t33 c = omega (arith, few (c .before .before .before))
 
-shared-slice-read-compared : tie.Need-shared-slice-read-compared Inv-loop μ-loop
-shared-slice-read-compared c = omega (arith, within (c .before .before .before .before .before))
+same-length : tie.Need-same-length
+same-length c = search needs
 
-cast-compared : tie.Need-cast-compared Inv-loop μ-loop
-cast-compared c = omega (arith, within (c .before .before .before .before .before), c .before .before .before .before .before .before .before .before .before .pre .0 .few)
-
-compared-requires : tie.Need-compared-requires Inv-loop μ-loop
-compared-requires c κs = search needs
-
-returns : tie.Need-returns Inv-loop μ-loop
+returns : tie.Need-returns
 returns c =
-    record {
-      passed = λ e. absurd (c .if1 .taken e);
-      stopped = compared-stopped _ _ _ _ _ _ (c .before .before .before .before .before .before .before .before .before .loop .inv .1) (position-of _ (c .before .before .before .before .before .before .before .before .loop-test .taken)) (c .before .before .before .before .before .before .dot .ensures) (c .before .before .before .before .wrapping-add-u32 .ensures) (c .before .before .compared .ensures) (within (c .before .before .before .before .before .before .before .before));
-    }
+    let a = c .before .before .before in
+    row-untrue (start a .pre) refl (summed a .row-sums .ensures) (a .agreeing .ensures) (c .before .if1 .taken) refl
 
-add-column : tie.Need-add-column Inv-loop μ-loop
-add-column c = omega arith
+same-length-2 : tie.Need-same-length-2
+same-length-2 c = search needs
 
-loop-less : tie.Need-loop-less Inv-loop μ-loop
-loop-less c = omega arith
-
-loop-again : tie.Need-loop-again Inv-loop μ-loop
-loop-again c = (omega arith, compared-at _ _ _ _ _ _ (omega arith) (compared-more _ _ _ _ _ _ (c .before .before .before .before .before .before .before .before .before .loop .inv .1) (position-of _ (c .before .before .before .before .before .before .before .before .loop-test .taken)) (c .before .before .before .before .before .before .dot .ensures) (c .before .before .before .before .wrapping-add-u32 .ensures) (c .before .before .compared .ensures) (c .if1 .left)))
-
-returns-2 : tie.Need-returns-2 Inv-loop μ-loop
+returns-2 : tie.Need-returns-2
 returns-2 c =
-    record {
-      passed = λ e. compared-at _ _ _ _ _ _ (omega (arith, c .before .loop .inv .0)) (c .before .loop .inv .1);
-      stopped = λ d. absurd (d (ap (λ a. a .number) (c .before .loop .inv .1 .answer-is)));
-    }
+    let a = c .before .before in
+    row-true (start a .pre) refl (summed a .row-sums .ensures) (a .agreeing .ensures) (c .if1 .left) refl
 
 pub compare-row-spec : {M : Type 1} → statement M
 compare-row-spec =
     tie.close
-    (tie.spec
-    Inv-loop
-    μ-loop
-    mul-at
-    add-entries
-    mul-entries
-    sub-entries
-    part-entries-start
-    part-entries-end
-    mul-start
-    loop-holds
-    mul-from
-    add-dot
-    mul-dot
-    sub-dot
-    part-dot-start
-    part-dot-end
-    dot-requires
-    add-c
-    cast-made
-    add-made
-    wrapping-add-u32-requires
-    mul-compared
-    shared-slice-read-compared
-    cast-compared
-    compared-requires
-    returns
-    add-column
-    loop-less
-    loop-again
-    returns-2)
+    (tie.spec cast-inner cast-width mul-at mul-start add-row-sums mul-row-sums sub-row-sums part-row-sums-start part-row-sums-end
+    row-sums-requires add-agreeing mul-agreeing sub-agreeing part-agreeing-start part-agreeing-end agreeing-requires
+    mul-products cast-products add-products add-t31 cast-t32 add-t33 same-length returns same-length-2 returns-2)

@@ -1,0 +1,104 @@
+use native.Mathlib.Omega.{arith}
+use mathlib.Core.Path.{sym, _∙_}
+use lib.Seq.{length-take-le}
+use Rattle.full.specs.Laws.Claims.{Decoded, decoded, sums-ready, sums-verdict}
+use borrow.Author.Needs.{needs}
+use Rattle.full.proofs.claims.decode_and_compare.Statement.{statement}
+use Rattle.full.proofs.claims.decode_and_compare.Tie as tie
+
+-- the steps up to the last list, from the last to the first
+abbrev of-A : tie.After-lifted-claims → tie.After-narrow-entries2
+of-A c = c .before .before .before .before
+
+abbrev turned : tie.After-lifted-claims → tie.After-turn
+turned c = of-A c .before .before .before
+
+abbrev of-B : tie.After-lifted-claims → tie.After-narrow-entries
+of-B c = turned c .before .before .before .before .before .before
+
+abbrev start : tie.After-part4 → tie.Start
+start c = c .before .before .before .before .before .before
+
+abbrev call : tie.After-lifted-claims → tie.Start
+call c = start (of-B c .before .before)
+
+-- what the lists then hold
+lists : (c : tie.After-lifted-claims) → Decoded (call c .args .setting) (call c .args .ticket .now)
+    (of-A c .narrow-entries2 .last .1 .0) (turned c .turn .last .1 .1 .1 .0) (c .lifted-claims .last .1 .1 .1 .1 .0)
+lists c =
+    let parts = of-B c .before .before in
+    decoded (call c .pre .0) (call c .pre .1) (parts .before .before .before .part .ensures) (parts .before .before .part2 .ensures)
+    (parts .before .part3 .ensures) (parts .part4 .ensures) (c .before .before .half .ensures) (of-B c .narrow-entries .ensures)
+    (turned c .turn .ensures) (of-A c .narrow-entries2 .ensures) (c .lifted-claims .ensures)
+
+part-requires : tie.Need-part-requires
+part-requires c κs = search needs
+
+part-requires-2 : tie.Need-part-requires-2
+part-requires-2 c κs = search needs
+
+part-requires-3 : tie.Need-part-requires-3
+part-requires-3 c κs = search needs
+
+part-requires-4 : tie.Need-part-requires-4
+part-requires-4 c κs = search needs
+
+narrow-entries-requires : tie.Need-narrow-entries-requires
+narrow-entries-requires c κs = search needs
+
+cast-turn : tie.Need-cast-turn
+cast-turn c = search needs
+
+cast-turn-2 : tie.Need-cast-turn-2
+cast-turn-2 c = omega (arith, start (c .before .before .before .before .before .before) .pre .0 .counts .sizes .columns)
+
+turn-requires : tie.Need-turn-requires
+turn-requires c κs = search needs
+
+narrow-entries-requires-2 : tie.Need-narrow-entries-requires-2
+narrow-entries-requires-2 c κs = search needs
+
+half-requires : tie.Need-half-requires
+half-requires c κs = search needs
+
+lifted-claims-requires : tie.Need-lifted-claims-requires
+lifted-claims-requires c κs = search needs
+
+cast-width : tie.Need-cast-width
+cast-width c = search needs
+
+array-borrow-prefix-sums : tie.Need-array-borrow-prefix-sums
+array-borrow-prefix-sums c =
+    let made = c .before .before .before .before .before .before in
+    omega (arith, call made .pre .0 .counts .sizes .columns)
+
+slice-aggregate-compare : tie.Need-slice-aggregate-compare
+slice-aggregate-compare c = sym (length-take-le _ _ (array-borrow-prefix-sums (c .before)))
+
+compare-requires : tie.Need-compare-requires
+compare-requires c κs =
+    let made = c .before .before .before .before .before .before .before in
+    sums-ready (call made .pre .0) (lists made) (sym (slice-aggregate-compare c))
+
+same-length : tie.Need-same-length
+same-length c =
+    let made = c .before .before .before .before .before .before .before .before .before in
+    of-A made .narrow-entries2 .ensures .long ∙ of-B made .narrow-entries .ensures .long
+
+same-length-2 : tie.Need-same-length-2
+same-length-2 c = search needs
+
+same-length-3 : tie.Need-same-length-3
+same-length-3 c = search needs
+
+returns : tie.Need-returns
+returns c =
+    let made = c .before .before .before .before .before .before .before .before .before in
+    c .before .compare .ensures ∙ sums-verdict (call made .pre .0) (lists made)
+
+pub decode-and-compare-spec : {M : Type 1} → statement M
+decode-and-compare-spec =
+    tie.close
+    (tie.spec part-requires part-requires-2 part-requires-3 part-requires-4 narrow-entries-requires cast-turn cast-turn-2
+    turn-requires narrow-entries-requires-2 half-requires lifted-claims-requires cast-width array-borrow-prefix-sums
+    slice-aggregate-compare compare-requires same-length same-length-2 same-length-3 returns)
