@@ -1,9 +1,7 @@
 // A matrix turned, so that its columns stand one after the other, and the products of a row with columns that do.
 ghost use Prim.Native.Nat.{_+_, _*_, _≤_, _<_};
-ghost use lib.IntN.{pos};
 ghost use lib.ListN.{length};
-ghost use Rattle.algebra.specs.Laws.Fills.{Further};
-ghost use Rattle.exact.specs.Laws.Matrices.{turnedNumber, Turned, RowSums};
+ghost use Rattle.exact.specs.Laws.Matrices.{Turned, TurnedFurther, RowSums};
 use crate::dot;
 
 // The matrix, which is row by row, goes to the list column by column. Where the matrix or the list is too short, nothing is written.
@@ -19,26 +17,26 @@ pub fn turn(matrix: &[i16], height: u16, width: u16, list: &mut [i16])
     if list.len() < count {
         return;
     }
-    let mut column = 0;
-    while column < columns {
-        turn_column(matrix, rows, columns, column, list);
-        column += 1;
+    let mut row = 0;
+    while row < rows {
+        turn_row(matrix, rows, columns, row, list);
+        row += 1;
     }
 }
 
-// One column of the matrix: a number of each row.
-fn turn_column(matrix: &[i16], height: usize, width: usize, column: usize, list: &mut [i16])
-    requires { ⌜ (column < width) × (height * width ≤ length (now matrix)) × (height * width ≤ length (now list)) ⌝ }
-    ensures { λ r. ⌜ Further (pos 0) (now (list .entry)) (column * height) (column * height + height)
-        (turnedNumber (now (matrix .entry)) height width) (now (list .exit)) ⌝ }
+// One row of the matrix: a number for each column. Numbers are read one after the other and written apart, which the compiler leaves
+// as it is; the other way round it gathers them into vectors, and that takes longer.
+fn turn_row(matrix: &[i16], height: usize, width: usize, row: usize, list: &mut [i16])
+    requires { ⌜ (row < height) × (height * width ≤ length (now matrix)) × (height * width ≤ length (now list)) ⌝ }
+    ensures { λ r. ⌜ TurnedFurther (now (matrix .entry)) height width (row * width) (row * width + width) (now (list .entry)) (now (list .exit)) ⌝ }
 {
-    let start = column * height;
-    let mut at = column;
-    let mut k = 0;
-    while k < height {
-        list[start + k] = matrix[at];
-        at += width;
-        k += 1;
+    let start = row * width;
+    let mut at = row;
+    let mut column = 0;
+    while column < width {
+        list[at] = matrix[start + column];
+        at += height;
+        column += 1;
     }
 }
 

@@ -1,33 +1,40 @@
 -- Matrices of 16-bit numbers as lists: turned, and multiplied.
 --
---   turnedNumber M h w i   number i of the matrix M of h rows and w columns, column by column
+--   placeBefore h w i      which number of a matrix of h rows and w columns is number i of the turned one
+--   turnedNumber M h w i   number i of the turned matrix M
 --   Turned M h w b l       l is the list b with the matrix, turned, at its beginning; or b where one of the two is too short
---   number-at              row k, column j of the matrix is number j * h + k of the turned one
+--   TurnedTo M h w n b l   l is the list b with the first n numbers of the matrix, row by row, at their places in the turned one
+--   TurnedFurther M h w m n b l   where the list b has the first m numbers at their places, l is b with the first n: what a row does
+--   turned-none, turned-further, turned-all   no number is there yet, one more, and all
 --   turned-at              row k, column j of the matrix, where it stands in the turned list
 --   RowSums r C b s        s is the list b with the products of the row r with the columns in C at its beginning
 --   row-sums-ended         it is so after the last sum, or before the first column that C has not whole
 --   sums-exact             the product of a row and a column, as lines of two lists, is an entry of the product of matrices, modulo 2^32
 --   row-sums-exact         and so is a sum of the row with columns
 use Prim.Native.Nat.{ℕ, _+_, _-_, _*_, _/_, _%_, _^_, _≤_, _<_}
-use native.Mathlib.Nat.{mul-le-mul-right}
-use native.Mathlib.Decide.{decLt}
+use native.Mathlib.Nat.{mul-le-mul-right, div-add-mod', div-lt-iff-lt-mul, mod-lt}
+use native.Mathlib.Decide.{decLt, ℕ-discrete}
 use native.Mathlib.Omega.{arith}
 use mathlib.Core.Path.{_≡_, refl, sym, ap, _∙_}
-use mathlib.Core.Logic.{_⊎_, ⊎-elim}
+use mathlib.Core.Logic.{_⊎_, inl, inr, ⊎-elim}
 use mathlib.Core.List.{List}
 use lib.Arith.{digits-div, digits-mod, digits-lt}
 use lib.IntN.{ℤ, pos}
-use lib.ListN.{length, getD}
+use lib.ListN.{length, getD, set, length-set}
+use lib.Seq.{getD-set-same, getD-set-other}
 use Rattle.residue.specs.Rules.{leastResidue}
 use Rattle.algebra.specs.Rules.{matrixProduct}
-use Rattle.algebra.specs.Laws.Fills.{Filled, lineAt, part-of, part-long}
+use Rattle.algebra.specs.Laws.Fills.{Filled, lineAt, part-of, part-long, digits-same}
 use Rattle.algebra.specs.Laws.Positions.{row-inside}
 use Rattle.algebra.specs.Laws.MatrixProducts.{matrixProduct-is}
 use Rattle.exact.specs.Rules.{dotProduct}
 use Rattle.exact.specs.Laws.Products.{dot-is}
 
+abbrev pub placeBefore : ℕ → ℕ → ℕ → ℕ
+placeBefore height width i = i % height * width + i / height
+
 abbrev pub turnedNumber : List ℤ → ℕ → ℕ → ℕ → ℤ
-turnedNumber matrix height width i = getD matrix (i % height * width + i / height) (pos 0)
+turnedNumber matrix height width i = getD matrix (placeBefore height width i) (pos 0)
 
 pub record Turned (matrix : List ℤ) (height width : ℕ) (before list : List ℤ) : Type 0 where
   pub turned : height * width ≤ length matrix → height * width ≤ length before
@@ -40,15 +47,78 @@ pub record RowSums (row columns : List ℤ) (before sums : List ℕ) : Type 0 wh
       → getD sums j 0 ≡ dotProduct row (lineAt columns (length row) j)
   pub rest : (j : ℕ) → length columns < j * length row + length row → getD sums j 0 ≡ getD before j 0
 
-pub number-at : (matrix : List ℤ) {height k at : ℕ} (width j : ℕ) → k < height → at ≡ k * width + j
-    → getD matrix at (pos 0) ≡ turnedNumber matrix height width (j * height + k)
-number-at matrix width j l e = rw (e, digits-mod j l, digits-div j l)
+pub record TurnedTo (matrix : List ℤ) (height width done : ℕ) (before list : List ℤ) : Type 0 where
+  pub long : length list ≡ length before
+  pub each : (i : ℕ) → i < height * width → placeBefore height width i < done → getD list i (pos 0) ≡ turnedNumber matrix height width i
+  pub rest : (i : ℕ) → (height * width ≤ i) ⊎ (done ≤ placeBefore height width i) → getD list i (pos 0) ≡ getD before i (pos 0)
+
+pub record TurnedFurther (matrix : List ℤ) (height width m n : ℕ) (before list : List ℤ) : Type 0 where
+  pub long : length list ≡ length before
+  pub turned : {first : List ℤ} → TurnedTo matrix height width m first before → TurnedTo matrix height width n first list
+
+-- row k, column j
+place-of : {height k : ℕ} (width j : ℕ) → k < height → placeBefore height width (j * height + k) ≡ k * width + j
+place-of width j l = rw (digits-mod j l, digits-div j l)
+
+-- a place of the turned matrix by its column and its row
+within-turned : {height width i : ℕ} → i < height * width → (i / height < width) × (i % height < height)
+within-turned {height} {width} {i} l =
+    let some : 0 < height = elim (decLt 0 height) [
+      | yes h ↦ h
+      | no h ↦ let none : height ≡ 0 = omega arith in absurd (omega (arith, ap (λ n. n * width) none))
+    ] in
+    let inside : i < width * height = omega arith in
+    (div-lt-iff-lt-mul some .1 inside, mod-lt i some)
+
+-- only one place holds row k, column j
+place-once : (height width k j i : ℕ) → j < width → i < height * width → placeBefore height width i ≡ k * width + j → i ≡ j * height + k
+place-once height width k j i m inside same =
+    let both = digits-same width (within-turned inside .0) m same in
+    omega (arith, div-add-mod' i height, both .0, ap (λ n. n * height) (both .1))
+
+module _ {matrix : List ℤ} {height width : ℕ} where
+  pub turned-none : {before : List ℤ} → TurnedTo matrix height width 0 before before
+  turned-none = record { long = refl; each = λ i l m. absurd (omega arith); rest = λ i l. refl }
+
+  turned-more : {k j : ℕ} {value : ℤ} {before list : List ℤ} → k < height → j < width → height * width ≤ length before
+      → TurnedTo matrix height width (k * width + j) before list → value ≡ getD matrix (k * width + j) (pos 0)
+      → TurnedTo matrix height width (k * width + (j + 1)) before (set list (j * height + k) value)
+  turned-more {k} {j} {value} {before} {list} l m room turned is =
+      let at = j * height + k in
+      let inside : at < length list = omega (arith, digits-lt m l, turned .long) in
+      record {
+        long = length-set list at value ∙ turned .long;
+        each = λ i within done. elim (ℕ-discrete i at) [
+          | yes same ↦ rw same (getD-set-same list at value (pos 0) inside ∙ is ∙ ap (λ n. getD matrix n (pos 0)) (sym (place-of width j l)))
+          | no other ↦
+              let earlier : placeBefore height width i ≡ k * width + j → ⊥ = λ same. other (place-once height width k j i m within same) in
+              getD-set-other list at i value (pos 0) other ∙ turned .each i within (omega arith)
+        ];
+        rest = λ i beyond.
+            getD-set-other list at i value (pos 0)
+            (λ same. ⊎-elim (λ past. omega (arith, digits-lt m l)) (λ later. omega (arith, ap (placeBefore height width) same ∙ place-of width j l)) beyond)
+            ∙ turned .rest i (⊎-elim inl (λ later. inr (omega arith)) beyond);
+      }
+
+  pub turned-further : {m k j at : ℕ} {value : ℤ} {before list : List ℤ} → k < height → j < width → height * width ≤ length before
+      → at ≡ j * height + k → TurnedFurther matrix height width m (k * width + j) before list
+      → value ≡ getD matrix (k * width + j) (pos 0) → TurnedFurther matrix height width m (k * width + (j + 1)) before (set list at value)
+  turned-further {at = at} {value = value} {list = list} l m room e turned is =
+      record {
+        long = length-set list at value ∙ turned .long;
+        turned = λ so-far. rw e (turned-more l m (omega (arith, so-far .long)) (turned .turned so-far) is);
+      }
+
+  pub turned-all : {n : ℕ} {before list : List ℤ} → height * width ≤ n → TurnedTo matrix height width n before list
+      → Filled (pos 0) before (height * width) (turnedNumber matrix height width) list
+  turned-all {n} most turned =
+      record { long = turned .long; each = λ i l. let at = within-turned l in turned .each i l (omega (arith, digits-lt (at .1) (at .0))); rest = λ i past. turned .rest i (inl past) }
 
 pub turned-at : {matrix : List ℤ} {height width : ℕ} {before list : List ℤ} → Turned matrix height width before list
     → height * width ≤ length matrix → height * width ≤ length before → (k j : ℕ) → k < height → j < width
     → getD list (j * height + k) (pos 0) ≡ getD matrix (k * width + j) (pos 0)
 turned-at {matrix} {height} {width} turned room-matrix room-list k j l m =
-    turned .turned room-matrix room-list .each (j * height + k) (omega (arith, digits-lt m l)) ∙ sym (number-at matrix width j l refl)
+    turned .turned room-matrix room-list .each (j * height + k) (omega (arith, digits-lt m l)) ∙ ap (λ n. getD matrix n (pos 0)) (place-of width j l)
 
 pub row-sums-ended : {row columns : List ℤ} {before sums : List ℕ} {j : ℕ}
     → Filled 0 before j (λ i. dotProduct row (lineAt columns (length row) i)) sums → j * length row ≤ length columns
