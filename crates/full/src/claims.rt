@@ -130,11 +130,13 @@ fn compare_row(
     let count = agreeing(sums, &claims[start..start + width], lift);
     let products = before.products + ((inner * count) as u32);
     if count < width {
+        let place = (start + count) as u32;
+        let made = products + setting.inner;
         return Answer {
             number: 16,
-            place: (start + count) as u32,
+            place,
             row: 0,
-            products: products + setting.inner,
+            products: made,
         };
     }
     Answer {
@@ -169,10 +171,10 @@ fn all_agree(sums: &[u32], claims: &[u32], lift: u32) -> bool
     ensures { λ r. ⌜ r ≡ all (length (now (sums .entry))) (claimedFor (now (sums .entry)) (now (claims .entry)) lift) ⌝ }
 {
     let mut all = true;
-    let mut j = 0;
-    while j < sums.len() {
-        all = all & (std::num::wrapping_add_u32(sums[j], lift) == claims[j]);
-        j += 1;
+    let mut k = 0;
+    while k < sums.len() {
+        all = all & (std::num::wrapping_add_u32(sums[k], lift) == claims[k]);
+        k += 1;
     }
     all
 }

@@ -1,4 +1,4 @@
--- The loop keeps in `all` whether the first j sums are what is claimed for them.
+-- The loop keeps in `all` whether the first k sums are what is claimed for them.
 use Prim.Native.Nat.{_-_, _≤_}
 use native.Mathlib.Omega.{arith}
 use mathlib.Core.Path.{_≡_}
@@ -10,10 +10,10 @@ use Rattle.full.proofs.claims.all_agree.Statement.{statement}
 use Rattle.full.proofs.claims.all_agree.Tie as tie
 
 abbrev Inv-loop : tie.InvT-loop
-Inv-loop sums claims lift so-far₀ j₀ so-far j = (j ≤ length sums) × (so-far ≡ all j (claimedFor sums claims lift))
+Inv-loop sums claims lift so-far₀ k₀ so-far k = (k ≤ length sums) × (so-far ≡ all k (claimedFor sums claims lift))
 
 abbrev μ-loop : tie.MeasureT-loop
-μ-loop sums claims lift so-far₀ j₀ so-far j = length sums - j
+μ-loop sums claims lift so-far₀ k₀ so-far k = length sums - k
 
 loop-holds : tie.Need-loop-holds Inv-loop μ-loop
 loop-holds c = (omega arith, all-none _)
@@ -33,8 +33,8 @@ mul-all c = omega arith
 shared-slice-read-all : tie.Need-shared-slice-read-all Inv-loop μ-loop
 shared-slice-read-all c = omega arith
 
-add-j : tie.Need-add-j Inv-loop μ-loop
-add-j c = omega arith
+add-k : tie.Need-add-k Inv-loop μ-loop
+add-k c = omega arith
 
 loop-less : tie.Need-loop-less Inv-loop μ-loop
 loop-less c = omega arith
@@ -42,15 +42,15 @@ loop-less c = omega arith
 loop-again : tie.Need-loop-again Inv-loop μ-loop
 loop-again c =
     let at = c .before .before .before .before in
-    (omega arith, all-next (at .loop .j) _ (at .loop .inv .1) (rw (c .before .wrapping-add-u32 .ensures)))
+    (omega arith, all-next (at .loop .k) _ (at .loop .inv .1) (rw (c .before .wrapping-add-u32 .ensures)))
 
 returns : tie.Need-returns Inv-loop μ-loop
 returns c =
-    let ended : c .before .loop .j ≡ length (c .before .before .before .before .args .sums .now) = omega arith in
+    let ended : c .before .loop .k ≡ length (c .before .before .before .before .args .sums .now) = omega arith in
     rw ended at (c .before .loop .inv .1)
 
 pub all-agree-spec : {M : Type 1} → statement M
 all-agree-spec =
     tie.close
     (tie.spec Inv-loop μ-loop loop-holds mul-wrapping-add-u32 shared-slice-read-wrapping-add-u32 wrapping-add-u32-requires
-    mul-all shared-slice-read-all add-j loop-less loop-again returns)
+    mul-all shared-slice-read-all add-k loop-less loop-again returns)

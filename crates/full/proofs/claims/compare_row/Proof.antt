@@ -74,14 +74,14 @@ cast-products c = omega (arith, few c)
 add-products : tie.Need-add-products
 add-products c = omega (arith, few (c .before))
 
-add-t31 : tie.Need-add-t31
-add-t31 c = search needs
+add-place : tie.Need-add-place
+add-place c = search needs
 
-cast-t32 : tie.Need-cast-t32
-cast-t32 c = omega (arith, few (c .before .before))
+cast-place : tie.Need-cast-place
+cast-place c = omega (arith, few (c .before .before))
 
-add-t33 : tie.Need-add-t33
-add-t33 c = omega (arith, few (c .before .before .before))
+add-made : tie.Need-add-made
+add-made c = omega (arith, few (c .before .before .before))
 
 same-length : tie.Need-same-length
 same-length c = search needs
@@ -104,4 +104,4 @@ compare-row-spec =
     tie.close
     (tie.spec cast-inner cast-width mul-at mul-start add-row-sums mul-row-sums sub-row-sums part-row-sums-start part-row-sums-end
     row-sums-requires add-agreeing mul-agreeing sub-agreeing part-agreeing-start part-agreeing-end agreeing-requires
-    mul-products cast-products add-products add-t31 cast-t32 add-t33 same-length returns same-length-2 returns-2)
+    mul-products cast-products add-products add-place cast-place add-made same-length returns same-length-2 returns-2)
