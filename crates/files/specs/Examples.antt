@@ -7,9 +7,8 @@ use lib.ListN.{take}
 use Rattle.residue.specs.Rules.{modulus, leastResidue, signedEntry}
 use Rattle.algebra.specs.Rules.{sumℤ}
 use Rattle.ticket.specs.declared.Answer.{Answer}
-use Rattle.ticket.specs.Rules.{first, sizesWithin, numbersWithin, fits, settingNumber, isEntry, shiftedQuotient, partA, partB, quotients, remainders, records, ticketLength, partOf, bytesOf, valueAt, formed, numberOf, partNumber, recordNumber, firstRefusal, after, recordsReading, reading, valueIn, entryA, entryB, quotient, remainder, claim}
-use Rattle.challenge.specs.Rules.{listNumber, listReading, productB, claimSide, operandSide, balanced, firstRow, firstVector, verdict, challengeCheck}
-use Rattle.soundness.specs.Laws.Answers.{answer}
+use Rattle.ticket.specs.Rules.{answer, first, scan, after, firstFailed, sizesWithin, numbersWithin, fits, settingTests, isEntry, shiftedQuotient, parts, part, count, start, records, ticketLength, holder, valueAt, formed, partTests, recordTests, firstRefusal, recordsReading, reading, valueIn, entryA, entryB, quotient, remainder, claim}
+use Rattle.challenge.specs.Rules.{listNumber, listReading, productB, claimSide, operandSide, balanced, firstRow, verdict, challengeCheck}
 use Rattle.files.specs.Rules.{wordAt, settingOf, numbersOf, fileCheck, digitsOf, decimal, field, lineOf}
 
 -- ℓ = m = n = 2, s = 1, α = 10, T = 8, v = 5
@@ -83,9 +82,9 @@ by-rules (prints s t c _) = prints s t c (lineOf (fileCheck s t c))
 by-rules (spells n _) = spells n (decimal n)
 
 examples-hold : map by-rules examples ≡ examples
-unfolding modulus leastResidue signedEntry sumℤ first sizesWithin numbersWithin fits settingNumber isEntry shiftedQuotient partA partB
-    quotients remainders records ticketLength partOf bytesOf valueAt formed numberOf partNumber recordNumber firstRefusal after
-    recordsReading reading valueIn entryA entryB quotient remainder claim listNumber listReading productB claimSide operandSide
-    balanced firstRow firstVector verdict challengeCheck wordAt settingOf numbersOf fileCheck digitsOf decimal field lineOf setting
-    ticket challenge examples by-rules
+unfolding modulus leastResidue signedEntry sumℤ first scan after firstFailed sizesWithin numbersWithin fits settingTests isEntry
+    shiftedQuotient parts part count start records ticketLength holder valueAt formed partTests recordTests firstRefusal recordsReading
+    reading valueIn entryA entryB quotient remainder claim listNumber listReading productB claimSide operandSide balanced firstRow
+    verdict challengeCheck wordAt settingOf numbersOf fileCheck digitsOf decimal field lineOf setting ticket challenge examples
+    by-rules
 examples-hold = refl

@@ -3,7 +3,6 @@
 --
 --   settingBytes       the bytes of a setting file
 --   numberBytes        the bytes of a number in a file
---   wordOf i j k l     the number of four bytes, little-endian
 --   wordAt b i         the number that begins at byte i of b
 --   settingOf b        the setting that b stands for: ℓ, m, n, s one byte each, then α, T, v four bytes each
 --   numbersOf b        the 4-byte numbers of b, one after another
@@ -19,6 +18,7 @@ use mathlib.Core.Bool.{cond}
 use mathlib.Core.List.{List, [], _∷_, _++_}
 use lib.Dec.{ltb, eqb}
 use lib.ListN.{length, getD}
+use Rattle.algebra.specs.Rules.{word}
 use Rattle.ticket.specs.declared.setting.Setting.{Setting}
 use Rattle.ticket.specs.declared.Answer.{Answer}
 use Rattle.ticket.specs.Rules.{unless, refusal, after, reading}
@@ -32,11 +32,8 @@ settingBytes = 16
 abbrev pub numberBytes : ℕ
 numberBytes = 4
 
-abbrev pub wordOf : ℕ → ℕ → ℕ → ℕ → ℕ
-wordOf i j k l = i + 256 * j + 65_536 * k + 16_777_216 * l
-
 unfoldable pub wordAt : List ℕ → ℕ → ℕ
-wordAt bytes i = wordOf (getD bytes i 0) (getD bytes (i + 1) 0) (getD bytes (i + 2) 0) (getD bytes (i + 3) 0)
+wordAt bytes i = word (getD bytes i 0) (getD bytes (i + 1) 0) (getD bytes (i + 2) 0) (getD bytes (i + 3) 0)
 
 unfoldable pub settingOf : List ℕ → Setting
 settingOf bytes =
@@ -56,7 +53,7 @@ numbersOf [] = []
 numbersOf (i ∷ []) = []
 numbersOf (i ∷ j ∷ []) = []
 numbersOf (i ∷ j ∷ k ∷ []) = []
-numbersOf (i ∷ j ∷ k ∷ l ∷ rest) = wordOf i j k l ∷ numbersOf rest
+numbersOf (i ∷ j ∷ k ∷ l ∷ rest) = word i j k l ∷ numbersOf rest
 
 -- a setting file of another length is 1; the tests 1 to 9; a challenge file of another length than 4 · s · n is 10; then the
 -- challenge check

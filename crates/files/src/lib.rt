@@ -6,7 +6,6 @@ use bytes::count;
 use bytes::numbers;
 use bytes::setting_of;
 use ticket::Answer;
-use ticket::RECORD;
 use ticket::Setting;
 
 mod bytes;
@@ -21,12 +20,7 @@ pub const SETTING_BYTES: usize = 16;
 // The bytes of a number in a challenge file.
 const NUMBER: usize = 4;
 
-// The most bytes of a ticket and of a challenge file that a setting within its limits asks for.
-pub const LONGEST_TICKET: usize = RECORD
-    * (Setting::MOST_ROWS * Setting::MOST_INNER
-        + Setting::MOST_INNER * Setting::MOST_COLUMNS
-        + 2 * (Setting::MOST_ROWS * Setting::MOST_COLUMNS)) as usize;
-
+// The most bytes of a challenge file that a setting within its limits asks for.
 pub const LONGEST_CHALLENGE: usize = NUMBER
     * (Setting::MOST_VECTORS * Setting::MOST_COLUMNS) as usize;
 

@@ -1,22 +1,18 @@
 // The program: reads setting.rec, ticket.rec and challenge.rec in the folder that it is run in, and writes the line of the
 // challenge check's answer. A file that is missing or cannot be read counts as empty.
-ghost use mathlib.Core.Path.{_≡_};
-ghost use mathlib.Core.List.{List};
-ghost use Prim.Native.Nat.{ℕ};
-ghost use Rattle.files.specs.Rules.{fileCheck, settingBytes};
 ghost use Rattle.files.specs.Laws.Prefixes.{Leads};
-ghost use Rattle.files.specs.Laws.Starts.{Begins, longestChallenge, longestTicket, Room};
+ghost use Rattle.files.specs.Laws.Starts.{BuffersRoom, AnswerFor};
 use files::LONGEST_CHALLENGE;
 use files::LONGEST_LINE;
-use files::LONGEST_TICKET;
 use files::SETTING_BYTES;
 use libc::STDOUT_FILENO;
 use ticket::Answer;
+use ticket::Setting;
 
 // Of each file one byte more is read than the longest has, which is enough to tell that it is too long.
 fn main() {
     let mut setting = [0; SETTING_BYTES + 1];
-    let mut ticket = [0; LONGEST_TICKET + 1];
+    let mut ticket = [0; Setting::LONGEST_TICKET + 1];
     let mut challenge = [0; LONGEST_CHALLENGE + 1];
     let i = read(b"setting.rec", &mut setting);
     let j = read(b"ticket.rec", &mut ticket);
@@ -39,8 +35,8 @@ fn read(name: &[u8], buffer: &mut [u8]) -> usize
 
 // The answer for the files of which the first i, j and k bytes are in the buffers.
 fn check(setting: &[u8], i: usize, ticket: &[u8], j: usize, challenge: &[u8], k: usize) -> Answer
-    requires { ⌜ Room settingBytes (now setting) i × Room longestTicket (now ticket) j × Room longestChallenge (now challenge) k ⌝ }
-    ensures { λ r. ⌜ ((s t c : List ℕ) → Begins (now (setting .entry)) i s → Begins (now (ticket .entry)) j t → Begins (now (challenge .entry)) k c → r ≡ fileCheck s t c) ⌝ }
+    requires { ⌜ BuffersRoom (now setting) i (now ticket) j (now challenge) k ⌝ }
+    ensures { λ r. ⌜ AnswerFor (now (setting .entry)) i (now (ticket .entry)) j (now (challenge .entry)) k r ⌝ }
 {
     files::check(&setting[..i], &ticket[..j], &challenge[..k])
 }

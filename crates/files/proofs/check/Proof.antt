@@ -20,24 +20,19 @@ array-share-prefix-list : tie.Need-array-share-prefix-list
 array-share-prefix-list c = search needs
 
 slice-aggregate-check : tie.Need-slice-aggregate-check
-slice-aggregate-check c = read-long _ _ (c .before .before .numbers .ensures) (c .before .count .ensures .within) .1
+slice-aggregate-check c = read-long _ (c .before .before .numbers .ensures) (c .before .count .ensures .within) .1
 
 check-requires : tie.Need-check-requires
 check-requires c κs = search needs
 
 returns-2 : tie.Need-returns-2
 returns-2 c =
-    list-checked _ _ _ (c .before .before .before .before .before .if1 .left) (c .before .before .before .before .setting-of .ensures) (c .before .before .before .numbers .ensures) (c .before .before .count .ensures) (c .check .ensures)
+    let read = c .before .before .before in
+    list-checked _ _ _ (read .before .before .if1 .left) (read .before .setting-of .ensures) (read .numbers .ensures)
+    (c .before .before .count .ensures) (c .check .ensures)
 
 pub check-spec : {M : Type 1} → statement M
 check-spec =
     tie.close
-    (tie.spec
-    returns
-    setting-of-requires
-    numbers-requires
-    count-requires
-    array-share-prefix-list
-    slice-aggregate-check
-    check-requires
-    returns-2)
+    (tie.spec returns setting-of-requires numbers-requires count-requires array-share-prefix-list slice-aggregate-check
+    check-requires returns-2)

@@ -8,6 +8,7 @@
 --   list-checked      the check by the list that the code makes
 use Prim.Native.Nat.{ℕ, _+_, _*_, _≤_}
 use native.Mathlib.Decide.{ℕ-discrete}
+use native.Mathlib.Omega.{arith}
 use mathlib.Core.Path.{_≡_, refl, sym, ap, _∙_}
 use mathlib.Core.List.{List}
 use borrow.Author.Tests.{eq-eqb, ne-eqb}
@@ -16,13 +17,13 @@ use lib.ListN.{length, take}
 use Rattle.ticket.specs.declared.setting.Setting.{Setting}
 use Rattle.ticket.specs.declared.Answer.{Answer}
 use Rattle.ticket.specs.Rules.{unless, refusal, after, reading, Passes}
-use Rattle.ticket.specs.Laws.Fills.{Filled}
 use Rattle.ticket.specs.Laws.Passes.{passed-of}
 use Rattle.ticket.specs.Laws.Scans.{after-passed, after-refused}
 use Rattle.challenge.specs.Rules.{challengeCheck}
-use Rattle.soundness.specs.Laws.Answers.{list-length, answer-of}
-use Rattle.files.specs.Rules.{settingBytes, numberBytes, wordAt, settingOf, numbersOf, fileCheck}
-use Rattle.files.specs.Laws.Numbers.{mostNumbers, Counted, read-long, numbers-read}
+use Rattle.challenge.specs.Laws.Checks.{check-ticket, check-list}
+use Rattle.challenge.specs.Laws.Lists.{other-length}
+use Rattle.files.specs.Rules.{settingBytes, numberBytes, settingOf, numbersOf, fileCheck}
+use Rattle.files.specs.Laws.Numbers.{mostNumbers, Counted, Words, read-long, numbers-read}
 
 module _ (s t c : List ℕ) where
   abbrev G : Setting
@@ -39,10 +40,6 @@ module _ (s t c : List ℕ) where
     unfolding fileCheck
     after-setting = rw (eq-eqb (length s) settingBytes right)
 
-    ticket-refused : (x : List ℕ) → (reading G t .number ≡ 0 → ⊥) → challengeCheck G t x ≡ reading G t
-    unfolding challengeCheck
-    ticket-refused x d = after-refused (reading G t) _ d
-
     pub same-check : (x : List ℕ)
         → (Passes G t
         → (length x ≡ G .vectors * G .columns → length c ≡ numberBytes * (G .vectors * G .columns))
@@ -50,14 +47,14 @@ module _ (s t c : List ℕ) where
         → challengeCheck G t x ≡ fileCheck s t c
     same-check x same =
         elim (ℕ-discrete (reading G t .number) 0) [
-          | no d ↦ ticket-refused x d ∙ sym (after-setting ∙ after-refused (reading G t) _ d)
+          | no d ↦ sym (check-ticket G t x refl d) ∙ sym (after-setting ∙ after-refused (reading G t) _ d)
           | yes p ↦
               elim (ℕ-discrete (length c) (numberBytes * (G .vectors * G .columns))) [
                 | yes e ↦
                     ap (challengeCheck G t) (same p .1 e)
                     ∙ sym (after-setting ∙ after-passed (reading G t) _ p ∙ rw (eq-eqb _ _ e))
                 | no d ↦
-                    answer-of G t x (list-length p (λ e. d (same p .0 e)))
+                    sym (check-list G t x refl p (sym (other-length G x (λ e. d (same p .0 e)))) (λ z. omega arith))
                     ∙ sym (after-setting ∙ after-passed (reading G t) _ p ∙ rw (ne-eqb _ _ d))
               ]
         ]
@@ -66,14 +63,14 @@ module _ (s t c : List ℕ) where
     as-call e = sym (same-check (numbersOf c) (λ p. (λ z. e, λ z. refl)))
 
     pub list-checked : {H : Setting} {words : List ℕ} {n : ℕ} {a : Answer} → H ≡ settingOf s
-        → Filled 0 (mostNumbers + 1) (mostNumbers + 1) (λ k. wordAt c (numberBytes * k)) words → Counted (length c) n
+        → Words c words → Counted (length c) n
         → a ≡ challengeCheck H t (take n words) → a ≡ fileCheck s t c
-    list-checked {H} {words} {n} H-is filled counted a-is =
-        let long : n ≡ length (take n words) = read-long (mostNumbers + 1) n filled (counted .within) .1 in
+    list-checked {H} {words} {n} H-is read counted a-is =
+        let long : n ≡ length (take n words) = read-long n read (counted .within) .1 in
         a-is ∙ ap (λ G. challengeCheck G t (take n words)) H-is
         ∙ same-check (take n words) (λ p.
         let few : G .vectors * G .columns ≤ mostNumbers = passed-of G t p .counts .challenges in
         let exactly = counted .exactly (G .vectors * G .columns) few in (
           λ e. exactly .0 (long ∙ e),
-          λ e. numbers-read (mostNumbers + 1) n c filled (counted .within) (e ∙ ap (λ k. numberBytes * k) (sym (exactly .1 e))),
+          λ e. numbers-read n read (counted .within) (e ∙ ap (λ k. numberBytes * k) (sym (exactly .1 e))),
         ))

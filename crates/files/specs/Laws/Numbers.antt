@@ -2,6 +2,7 @@
 --
 --   mostNumbers      the most numbers that a list has
 --   Counted b n      n is k exactly when b bytes are those of k numbers, for each k up to mostNumbers; it is at most one more
+--   Words c l        l is the words of c, one more than any list has numbers, zeros past its end
 --   numbers-long     the bytes of n numbers hold n numbers
 --   numbers-at       number k begins at byte 4 · k
 --   read-long        the first n words are n
@@ -14,7 +15,6 @@ use mathlib.Core.List.{List, [], _∷_}
 use lib.ListN.{length, getD, take, drop}
 use lib.Seq.{getD-take, getD-drop, ext-getD}
 use Rattle.ticket.specs.Rules.{mostColumns, mostVectors}
-use Rattle.ticket.specs.Laws.Fills.{Filled}
 use Rattle.files.specs.Rules.{numberBytes, wordAt, numbersOf}
 use Rattle.files.specs.Laws.Prefixes.{Leads, leads}
 
@@ -24,6 +24,10 @@ mostNumbers = mostVectors * mostColumns
 pub record Counted (bytes n : ℕ) : Type 0 where
   pub within : n ≤ mostNumbers + 1
   pub exactly : (k : ℕ) → k ≤ mostNumbers → (n ≡ k) ↔ (bytes ≡ numberBytes * k)
+
+pub record Words (c list : List ℕ) : Type 0 where
+  pub long : length list ≡ mostNumbers + 1
+  pub each : (k : ℕ) → k < mostNumbers + 1 → getD list k 0 ≡ wordAt c (numberBytes * k)
 
 pub numbers-long : (n : ℕ) (c : List ℕ) → length c ≡ numberBytes * n → length (numbersOf c) ≡ n
 unfolding numbersOf
@@ -53,13 +57,12 @@ numbers-at (a ∷ b ∷ c ∷ d ∷ rest) (suc k) h =
     numbers-at rest k (omega arith) ∙ later-word (a ∷ b ∷ c ∷ d ∷ rest) (numberBytes * k)
     ∙ ap (wordAt (a ∷ b ∷ c ∷ d ∷ rest)) (omega arith)
 
-pub read-long : (size n : ℕ) {f : ℕ → ℕ} {words : List ℕ} → Filled 0 size size f words → n ≤ size → Leads n words
-read-long size n {f} {words} filled few = leads n words (omega (arith, filled .long))
+pub read-long : {c words : List ℕ} (n : ℕ) → Words c words → n ≤ mostNumbers + 1 → Leads n words
+read-long {words = words} n read few = leads n words (omega (arith, read .long))
 
-pub numbers-read : (size n : ℕ) (c : List ℕ) {words : List ℕ} → Filled 0 size size (λ k. wordAt c (numberBytes * k)) words → n ≤ size
-    → length c ≡ numberBytes * n → take n words ≡ numbersOf c
-numbers-read size n c {words} filled few e =
-    let long : n ≡ length (take n words) = read-long size n filled few .1 in
+pub numbers-read : {c words : List ℕ} (n : ℕ) → Words c words → n ≤ mostNumbers + 1 → length c ≡ numberBytes * n → take n words ≡ numbersOf c
+numbers-read {c} {words} n read few e =
+    let long : n ≡ length (take n words) = read-long n read few .1 in
     ext-getD 0 (take n words) (numbersOf c) (sym long ∙ sym (numbers-long n c e)) (λ i l.
     let l : i < n = omega (arith, long) in
-    getD-take n words i 0 l ∙ filled .each i (omega arith) ∙ sym (numbers-at c i (omega arith)))
+    getD-take n words i 0 l ∙ read .each i (omega arith) ∙ sym (numbers-at c i (omega arith)))

@@ -1,13 +1,14 @@
 -- The beginnings of the three files decide: a file that is longer than any setting asks for is refused, however much of it is read,
 -- if that is one byte more than the longest.
 --
---   longestTicket       the most bytes of a ticket, over all settings within their limits
 --   longestChallenge    the most bytes of a challenge file
 --   long-ticket         a ticket of more bytes than any is refused
 --   start-decides       the check of the beginnings is that of the files
 --   Begins b n f        the first n bytes of the buffer b are those of the file f, as many as it has and the buffer holds
 --   read-begins         so it is where the file's first bytes are put at the beginning of a buffer
---   Room m b n          the buffer b has room for more than m bytes, and for n
+--   BufferRoom m b n    the buffer b has room for more than m bytes, and for n
+--   BuffersRoom ..      so have the three buffers, for more bytes than any setting asks for
+--   AnswerFor .. a      a is the answer for all files that begin as the buffers do
 --   read-decides        the check of what was read into buffers is that of the files
 use Prim.Native.Nat.{ℕ, _+_, _*_, _<_, min}
 use native.Mathlib.Decide.{ℕ-discrete}
@@ -19,8 +20,12 @@ use borrow.Author.Tests.{ne-eqb}
 use lib.ListN.{length, take, drop, length-append, length-take, length-drop}
 use lib.Seq.{take-at}
 use Rattle.ticket.specs.declared.setting.Setting.{Setting}
-use Rattle.ticket.specs.Rules.{mostRows, mostInner, mostColumns, refusal, after, settingNumber, recordBytes, records, ticketLength, recordsReading, reading}
-use Rattle.ticket.specs.Laws.Limits.{Counts, counts, passed-setting}
+use Rattle.ticket.specs.declared.Answer.{Answer}
+use Rattle.ticket.specs.Rules.{refusal, after, settingTests, settingNumber, reading}
+use Rattle.ticket.specs.Laws.Tests.{hold-or-failed, failed-number}
+use Rattle.ticket.specs.Laws.Limits.{counts, limits-of}
+use Rattle.ticket.specs.Laws.Layout.{longestTicket, length-most}
+use Rattle.ticket.specs.Laws.Refusals.{by-setting, refused-number, refused-reading, wrong-length}
 use Rattle.ticket.specs.Laws.Answers.{after-zero}
 use Rattle.ticket.specs.Laws.Passes.{passed-of}
 use Rattle.ticket.specs.Laws.Scans.{after-passed, after-refused}
@@ -29,23 +34,18 @@ use Rattle.files.specs.Laws.Prefixes.{Leads, whole-or-long}
 use Rattle.files.specs.Laws.Numbers.{mostNumbers}
 use Rattle.files.specs.Laws.Checks.{setting-refused, after-setting}
 
-abbrev pub longestTicket : ℕ
-longestTicket = recordBytes * (mostRows * mostInner + mostInner * mostColumns + 2 * (mostRows * mostColumns))
-
 abbrev pub longestChallenge : ℕ
 longestChallenge = numberBytes * mostNumbers
 
 pub long-ticket : (G : Setting) (t : List ℕ) → longestTicket < length t → reading G t ≡ after (refusal (settingNumber G) 0) (refusal 4 0)
-unfolding reading recordsReading ticketLength records
 long-ticket G t l =
-    elim (ℕ-discrete (settingNumber G) 0) [
-      | yes e ↦
-          let c : Counts G = counts (passed-setting G e .0) in
-          after-passed (refusal (settingNumber G) 0) _ e
-          ∙ rw (ne-eqb (length t) (ticketLength G) (λ z. omega arith))
-          (sym (after-passed (refusal (settingNumber G) 0) _ e))
-      | no d ↦ after-refused (refusal (settingNumber G) 0) _ d ∙ sym (after-refused (refusal (settingNumber G) 0) _ d)
-    ]
+    ⊎-elim
+    (λ h. wrong-length G t (λ e. omega (arith, length-most (counts (limits-of G h .sizes)))))
+    (λ f. let number = failed-number (f .1) in
+    let refused = by-setting (f .1) in
+    refused-reading G t refused ∙ ap (λ c. refusal c 0) (sym number)
+    ∙ sym (after-refused (refusal (settingNumber G) 0) _ (λ z. omega (arith, refused-number G t refused))))
+    (hold-or-failed (settingTests G))
 
 module _ (s t c : List ℕ) where
   abbrev G : Setting
@@ -77,8 +77,8 @@ module _ (s t c : List ℕ) where
         ]
 
 -- where the setting file has the right length, and where it has not
-by-setting : (s t t′ c c′ : List ℕ) → (length s ≡ settingBytes → fileCheck s t c ≡ fileCheck s t′ c′) → fileCheck s t c ≡ fileCheck s t′ c′
-by-setting s t t′ c c′ same =
+by-setting-file : (s t t′ c c′ : List ℕ) → (length s ≡ settingBytes → fileCheck s t c ≡ fileCheck s t′ c′) → fileCheck s t c ≡ fileCheck s t′ c′
+by-setting-file s t t′ c c′ same =
     elim (ℕ-discrete (length s) settingBytes) [
       | yes e ↦ same e
       | no d ↦ sym (setting-refused s t c d) ∙ setting-refused s t′ c′ d
@@ -88,14 +88,14 @@ ticket-start : (s t c : List ℕ) (j : ℕ) → longestTicket < j → fileCheck 
 ticket-start s t c j h =
     ⊎-elim
     (λ e. ap (λ l. fileCheck s l c) e)
-    (λ l. by-setting s (take j t) t c c (λ e. ticket-too-long s (take j t) c e (l .1) ∙ sym (ticket-too-long s t c e (l .0))))
+    (λ l. by-setting-file s (take j t) t c c (λ e. ticket-too-long s (take j t) c e (l .1) ∙ sym (ticket-too-long s t c e (l .0))))
     (whole-or-long longestTicket j t h)
 
 challenge-start : (s t c : List ℕ) (k : ℕ) → longestChallenge < k → fileCheck s t (take k c) ≡ fileCheck s t c
 challenge-start s t c k h =
     ⊎-elim
     (λ e. ap (fileCheck s t) e)
-    (λ l. by-setting s t t (take k c) c (λ e. challenge-too-long s t (take k c) e (l .1) ∙ sym (challenge-too-long s t c e (l .0))))
+    (λ l. by-setting-file s t t (take k c) c (λ e. challenge-too-long s t (take k c) e (l .1) ∙ sym (challenge-too-long s t c e (l .0))))
     (whole-or-long longestChallenge k c h)
 
 pub start-decides : (s t c : List ℕ) (i j k : ℕ) → settingBytes < i → longestTicket < j → longestChallenge < k
@@ -115,12 +115,21 @@ read-begins buffer file =
     simp (length-append, length-take, length-drop) (omega arith) in
     take-at (take (length buffer) file) (drop (length file) buffer) _ read ∙ ap (λ n. take n file) (sym long)
 
-abbrev pub Room : ℕ → List ℕ → ℕ → Type 0
-Room most buffer n = (most < length buffer) × Leads n buffer
+abbrev pub BufferRoom : ℕ → List ℕ → ℕ → Type 0
+BufferRoom most buffer n = (most < length buffer) × Leads n buffer
 
-pub read-decides : (setting ticket challenge : List ℕ) (i j k : ℕ)
-    → Room settingBytes setting i → Room longestTicket ticket j → Room longestChallenge challenge k
-    → (s t c : List ℕ) → Begins setting i s → Begins ticket j t → Begins challenge k c
-    → fileCheck (take i setting) (take j ticket) (take k challenge) ≡ fileCheck s t c
-read-decides setting ticket challenge i j k rs rt rc s t c es et ec =
-    rw (es, et, ec) (start-decides s t c (length setting) (length ticket) (length challenge) (rs .0) (rt .0) (rc .0))
+pub record BuffersRoom (setting : List ℕ) (i : ℕ) (ticket : List ℕ) (j : ℕ) (challenge : List ℕ) (k : ℕ) : Type 0 where
+  pub setting-room : BufferRoom settingBytes setting i
+  pub ticket-room : BufferRoom longestTicket ticket j
+  pub challenge-room : BufferRoom longestChallenge challenge k
+
+abbrev pub AnswerFor : List ℕ → ℕ → List ℕ → ℕ → List ℕ → ℕ → Answer → Type 0
+AnswerFor setting i ticket j challenge k a =
+    (s t c : List ℕ) → Begins setting i s → Begins ticket j t → Begins challenge k c → a ≡ fileCheck s t c
+
+pub read-decides : {setting ticket challenge : List ℕ} {i j k : ℕ} {a : Answer} → BuffersRoom setting i ticket j challenge k
+    → a ≡ fileCheck (take i setting) (take j ticket) (take k challenge) → AnswerFor setting i ticket j challenge k a
+read-decides {setting} {ticket} {challenge} room a-is s t c es et ec =
+    a-is
+    ∙ rw (es, et, ec) (start-decides s t c (length setting) (length ticket) (length challenge)
+    (room .setting-room .0) (room .ticket-room .0) (room .challenge-room .0))

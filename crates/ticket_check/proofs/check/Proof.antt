@@ -1,4 +1,3 @@
-use mathlib.Core.Path.{_∙_}
 use borrow.Author.Needs.{needs}
 use Rattle.files.specs.Laws.Starts.{read-decides}
 use Rattle.ticket_check.proofs.check.Statement.{statement}
@@ -17,16 +16,9 @@ check-requires : tie.Need-check-requires
 check-requires c κs = search needs
 
 returns : tie.Need-returns
-returns c s t x es et ex =
-    let pre = c .before .before .before .before .before .before .before .pre in
-    c .check .ensures ∙ read-decides _ _ _ _ _ _ (pre .0) (pre .1) (pre .2) s t x es et ex
+returns c = read-decides (c .before .before .before .before .before .before .before .pre) (c .check .ensures)
 
 pub check-spec : {M : Type 1} → statement M
 check-spec =
     tie.close
-    (tie.spec
-    slice-aggregate-check
-    slice-aggregate-check-2
-    slice-aggregate-check-3
-    check-requires
-    returns)
+    (tie.spec slice-aggregate-check slice-aggregate-check-2 slice-aggregate-check-3 check-requires returns)

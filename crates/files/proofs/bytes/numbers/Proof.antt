@@ -1,20 +1,20 @@
+-- The loop keeps the first k words in the list.
 use Prim.Native.Nat.{_+_, _-_, _*_, _≤_}
 use native.Mathlib.Omega.{arith}
-use mathlib.Core.Path.{refl}
-use Rattle.ticket.specs.Laws.Fills.{Filled, filled-none, filled-more}
+use Rattle.algebra.specs.Laws.Fills.{Filled, filled-none, filled-more}
 use Rattle.files.specs.Rules.{numberBytes, wordAt}
 use Rattle.files.specs.Laws.Numbers.{mostNumbers}
 use Rattle.files.proofs.bytes.numbers.Statement.{statement}
 use Rattle.files.proofs.bytes.numbers.Tie as tie
 
 abbrev Inv-loop : tie.InvT-loop
-Inv-loop bytes list₀ k₀ list k = (k ≤ mostNumbers + 1) × Filled 0 (mostNumbers + 1) k (λ i. wordAt bytes (numberBytes * i)) list
+Inv-loop bytes list₀ k₀ list k = (k ≤ mostNumbers + 1) × Filled 0 list₀ k (λ i. wordAt bytes (numberBytes * i)) list
 
 abbrev μ-loop : tie.MeasureT-loop
 μ-loop bytes list₀ k₀ list k = mostNumbers + 1 - k
 
 loop-holds : tie.Need-loop-holds Inv-loop μ-loop
-loop-holds c = (omega arith, filled-none _ _ _ refl)
+loop-holds c = (omega arith, filled-none)
 
 mul-word-at : tie.Need-mul-word-at Inv-loop μ-loop
 mul-word-at c = omega arith
@@ -35,7 +35,7 @@ loop-less : tie.Need-loop-less Inv-loop μ-loop
 loop-less c = omega arith
 
 loop-again : tie.Need-loop-again Inv-loop μ-loop
-loop-again c = (omega arith, filled-more _ _ _ (omega arith) (c .before .before .loop .inv .1) (c .word-at .ensures))
+loop-again c = (omega arith, filled-more (omega arith) (c .before .before .loop .inv .1) (c .word-at .ensures))
 
 returns : tie.Need-returns Inv-loop μ-loop
 returns c = let filled = c .before .loop .inv .1 in record { long = filled .long; each = λ k l. filled .each k (omega arith) }
@@ -43,15 +43,4 @@ returns c = let filled = c .before .loop .inv .1 in record { long = filled .long
 pub numbers-spec : {M : Type 1} → statement M
 numbers-spec =
     tie.close
-    (tie.spec
-    Inv-loop
-    μ-loop
-    loop-holds
-    mul-word-at
-    word-at-requires
-    mul-list
-    array-write-list
-    add-k
-    loop-less
-    loop-again
-    returns)
+    (tie.spec Inv-loop μ-loop loop-holds mul-word-at word-at-requires mul-list array-write-list add-k loop-less loop-again returns)

@@ -43,16 +43,5 @@ returns c = cc
 pub setting-of-spec : {M : Type 1} → statement M
 setting-of-spec =
     tie.close
-    (tie.spec
-    byte-at-requires
-    cast-t3
-    byte-at-requires-2
-    cast-t5
-    byte-at-requires-3
-    cast-t7
-    byte-at-requires-4
-    cast-t9
-    word-at-requires
-    word-at-requires-2
-    word-at-requires-3
-    returns)
+    (tie.spec byte-at-requires cast-t3 byte-at-requires-2 cast-t5 byte-at-requires-3 cast-t7 byte-at-requires-4 cast-t9
+    word-at-requires word-at-requires-2 word-at-requires-3 returns)

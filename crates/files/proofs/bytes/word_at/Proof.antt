@@ -34,13 +34,5 @@ returns c = cc
 pub word-at-spec : {M : Type 1} → statement M
 word-at-spec =
     tie.close
-    (tie.spec
-    byte-at-requires
-    add-byte-at
-    byte-at-requires-2
-    add-byte-at-2
-    byte-at-requires-3
-    add-byte-at-3
-    byte-at-requires-4
-    word-requires
-    returns)
+    (tie.spec byte-at-requires add-byte-at byte-at-requires-2 add-byte-at-2 byte-at-requires-3 add-byte-at-3 byte-at-requires-4
+    word-requires returns)

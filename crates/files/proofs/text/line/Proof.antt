@@ -16,14 +16,12 @@ put-field-requires-4 : tie.Need-put-field-requires-4
 put-field-requires-4 c κs = search needs
 
 returns : tie.Need-returns
-returns c = put-line _ (c .before .before .before .before .before .before .put-field .ensures .0) (c .before .before .before .before .put-field2 .ensures .0) (c .before .before .put-field3 .ensures .0) (c .put-field4 .ensures .0)
+returns c =
+    let place = c .before .before .before .before in
+    put-line _ (place .before .before .put-field .ensures .0) (place .put-field2 .ensures .0) (c .before .before .put-field3 .ensures .0)
+    (c .put-field4 .ensures .0)
 
 pub line-spec : {M : Type 1} → statement M
 line-spec =
     tie.close
-    (tie.spec
-    put-field-requires
-    put-field-requires-2
-    put-field-requires-3
-    put-field-requires-4
-    returns)
+    (tie.spec put-field-requires put-field-requires-2 put-field-requires-3 put-field-requires-4 returns)
