@@ -3,7 +3,7 @@ ghost use mathlib.Core.Path.{_≡_};
 ghost use Prim.Native.Nat.{_+_, _*_, _≤_};
 ghost use lib.ListN.{getD};
 ghost use Rattle.files.specs.Rules.{numberBytes, settingOf, wordAt};
-ghost use Rattle.files.specs.Laws.Numbers.{mostNumbers, Counted, Words};
+ghost use Rattle.files.specs.Laws.Numbers.{mostNumbers, Counted, ChallengeWords};
 use crate::LONGEST_CHALLENGE;
 use crate::NUMBER;
 use ticket::Setting;
@@ -43,7 +43,7 @@ pub(crate) fn count(bytes: usize) -> usize
 
 // The first numbers of a challenge file, zeros past its end.
 pub(crate) fn numbers(bytes: &[u8]) -> [u32; NUMBERS]
-    ensures { λ r. ⌜ Words (now (bytes .entry)) r ⌝ }
+    ensures { λ r. ⌜ ChallengeWords (now (bytes .entry)) r ⌝ }
 {
     let mut list = [0; NUMBERS];
     let mut k = 0;

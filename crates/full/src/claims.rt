@@ -7,7 +7,7 @@ ghost use Rattle.ticket.specs.Laws.All.{all};
 ghost use Rattle.ticket.specs.Laws.Passes.{Passed};
 ghost use Rattle.ticket.specs.Laws.Runs.{steps-answer};
 ghost use Rattle.full.specs.Rules.{fullVerdict};
-ghost use Rattle.full.specs.Laws.Sums.{claimedFor, sumSteps, SumsReady, RowReady, RowCompared};
+ghost use Rattle.full.specs.Laws.Sums.{claimedFor, sumSteps, SumsReady, SumRowReady, RowCompared};
 ghost use Rattle.full.specs.Laws.Claims.{Space};
 use ticket::Answer;
 use ticket::PartNumber;
@@ -119,7 +119,7 @@ fn compare_row(
     row: u32,
     before: Answer,
 ) -> Answer
-    requires { ⌜ RowReady setting (now rows) (now columns) (now claims) (length (now sums)) lift row before ⌝ }
+    requires { ⌜ SumRowReady setting (now rows) (now columns) (now claims) (length (now sums)) lift row before ⌝ }
     ensures { λ r. ⌜ RowCompared setting (now (rows .entry)) (now (columns .entry)) (now (claims .entry)) row r ⌝ }
 {
     let inner = setting.inner as usize;

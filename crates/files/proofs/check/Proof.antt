@@ -1,11 +1,11 @@
 use borrow.Author.Needs.{needs}
-use Rattle.files.specs.Laws.Checks.{setting-refused, list-checked}
+use Rattle.files.specs.Laws.Checks.{setting-file-refused, list-checked}
 use Rattle.files.specs.Laws.Numbers.{read-long}
 use Rattle.files.proofs.check.Statement.{statement}
 use Rattle.files.proofs.check.Tie as tie
 
 returns : tie.Need-returns
-returns c = setting-refused _ _ _ (c .if1 .taken)
+returns c = setting-file-refused _ _ _ (c .if1 .taken)
 
 setting-of-requires : tie.Need-setting-of-requires
 setting-of-requires c κs = search needs

@@ -1,12 +1,12 @@
 -- The check of the three files, as the code makes it. s, t and c are the bytes of setting.rec, ticket.rec and challenge.rec.
 --
---   setting-refused   a setting file of another length is refused by 1
+--   setting-file-refused   a setting file of another length is refused by 1
 --   after-setting     a setting file of the right length: what comes after it
 --   same-check        the check is the challenge check of any list that is as long as the setting asks exactly when the file is,
 --                     and is then the file's numbers
 --   as-call           files of the right lengths: the check is the challenge check of what they stand for
 --   list-checked      the check by the list that the code makes
-use Prim.Native.Nat.{ℕ, _+_, _*_, _≤_}
+use Prim.Native.Nat.{ℕ, _*_, _≤_}
 use native.Mathlib.Decide.{ℕ-discrete}
 use native.Mathlib.Omega.{arith}
 use mathlib.Core.Path.{_≡_, refl, sym, ap, _∙_}
@@ -23,15 +23,15 @@ use Rattle.challenge.specs.Rules.{challengeCheck}
 use Rattle.challenge.specs.Laws.Checks.{check-ticket, check-list}
 use Rattle.challenge.specs.Laws.Lists.{other-length}
 use Rattle.files.specs.Rules.{settingBytes, numberBytes, settingOf, numbersOf, fileCheck}
-use Rattle.files.specs.Laws.Numbers.{mostNumbers, Counted, Words, read-long, numbers-read}
+use Rattle.files.specs.Laws.Numbers.{mostNumbers, Counted, ChallengeWords, read-long, numbers-read}
 
 module _ (s t c : List ℕ) where
   abbrev G : Setting
   G = settingOf s
 
-  pub setting-refused : (length s ≡ settingBytes → ⊥) → refusal 1 0 ≡ fileCheck s t c
+  pub setting-file-refused : (length s ≡ settingBytes → ⊥) → refusal 1 0 ≡ fileCheck s t c
   unfolding fileCheck
-  setting-refused d = sym (rw (ne-eqb (length s) settingBytes d))
+  setting-file-refused d = sym (rw (ne-eqb (length s) settingBytes d))
 
   module _ (right : length s ≡ settingBytes) where
     pub after-setting : fileCheck s t c
@@ -63,7 +63,7 @@ module _ (s t c : List ℕ) where
     as-call e = sym (same-check (numbersOf c) (λ p. (λ z. e, λ z. refl)))
 
     pub list-checked : {H : Setting} {words : List ℕ} {n : ℕ} {a : Answer} → H ≡ settingOf s
-        → Words c words → Counted (length c) n
+        → ChallengeWords c words → Counted (length c) n
         → a ≡ challengeCheck H t (take n words) → a ≡ fileCheck s t c
     list-checked {H} {words} {n} H-is read counted a-is =
         let long : n ≡ length (take n words) = read-long n read (counted .within) .1 in

@@ -1,9 +1,6 @@
 -- The line of an answer, field after field.
 --
 --   Put b k x r a    an output that held b holds a: from the place k on the text x, up to the place r, and elsewhere what it held
---   put-long         it is as long as it was
---   put-byte         one byte
---   put-more         one text after another
 --   digit-room       there is room for a digit where there is for a number
 --   length-longer    how long a number of several digits is, by its tenth
 --   put-digit        a number of one digit
@@ -29,15 +26,15 @@ pub record Put (before : List ℕ) (at : ℕ) (text : List ℕ) (next : ℕ) (af
   pub inside : next ≤ length before
   pub bytes : after ≡ take at before ++ (text ++ drop next before)
 
-pub put-long : {before after text : List ℕ} {at next : ℕ} → Put before at text next after → length after ≡ length before
+put-long : {before after text : List ℕ} {at next : ℕ} → Put before at text next after → length after ≡ length before
 put-long {before} {after} {text} {at} {next} put =
     ap length (put .bytes)
     ∙ simp (length-append, length-drop) (omega (arith, put, length-take-le at before (omega (arith, put))))
 
-pub put-byte : (before : List ℕ) (at b : ℕ) → at < length before → Put before at (b ∷ []) (at + 1) (set before at b)
+put-byte : (before : List ℕ) (at b : ℕ) → at < length before → Put before at (b ∷ []) (at + 1) (set before at b)
 put-byte before at b l = record { place = omega arith; inside = omega arith; bytes = rw (add-one at) (set-split before at b l) }
 
-pub put-more : {before middle after text text′ : List ℕ} {at next next′ : ℕ} → Put before at text next middle
+put-more : {before middle after text text′ : List ℕ} {at next next′ : ℕ} → Put before at text next middle
     → Put middle next text′ next′ after → Put before at (text ++ text′) next′ after
 put-more {before} {middle} {after} {text} {text′} {at} {next} {next′} first second =
     let written = take at before ++ text in

@@ -2,7 +2,7 @@
 --
 --   mostNumbers      the most numbers that a list has
 --   Counted b n      n is k exactly when b bytes are those of k numbers, for each k up to mostNumbers; it is at most one more
---   Words c l        l is the words of c, one more than any list has numbers, zeros past its end
+--   ChallengeWords c l   l is the words of c, one more than any list has numbers, zeros past its end
 --   numbers-long     the bytes of n numbers hold n numbers
 --   numbers-at       number k begins at byte 4 · k
 --   read-long        the first n words are n
@@ -25,7 +25,7 @@ pub record Counted (bytes n : ℕ) : Type 0 where
   pub within : n ≤ mostNumbers + 1
   pub exactly : (k : ℕ) → k ≤ mostNumbers → (n ≡ k) ↔ (bytes ≡ numberBytes * k)
 
-pub record Words (c list : List ℕ) : Type 0 where
+pub record ChallengeWords (c list : List ℕ) : Type 0 where
   pub long : length list ≡ mostNumbers + 1
   pub each : (k : ℕ) → k < mostNumbers + 1 → getD list k 0 ≡ wordAt c (numberBytes * k)
 
@@ -57,10 +57,10 @@ numbers-at (a ∷ b ∷ c ∷ d ∷ rest) (suc k) h =
     numbers-at rest k (omega arith) ∙ later-word (a ∷ b ∷ c ∷ d ∷ rest) (numberBytes * k)
     ∙ ap (wordAt (a ∷ b ∷ c ∷ d ∷ rest)) (omega arith)
 
-pub read-long : {c words : List ℕ} (n : ℕ) → Words c words → n ≤ mostNumbers + 1 → Leads n words
+pub read-long : {c words : List ℕ} (n : ℕ) → ChallengeWords c words → n ≤ mostNumbers + 1 → Leads n words
 read-long {words = words} n read few = leads n words (omega (arith, read .long))
 
-pub numbers-read : {c words : List ℕ} (n : ℕ) → Words c words → n ≤ mostNumbers + 1 → length c ≡ numberBytes * n → take n words ≡ numbersOf c
+pub numbers-read : {c words : List ℕ} (n : ℕ) → ChallengeWords c words → n ≤ mostNumbers + 1 → length c ≡ numberBytes * n → take n words ≡ numbersOf c
 numbers-read {c} {words} n read few e =
     let long : n ≡ length (take n words) = read-long n read few .1 in
     ext-getD 0 (take n words) (numbersOf c) (sym long ∙ sym (numbers-long n c e)) (λ i l.

@@ -32,7 +32,7 @@ use Rattle.ticket.specs.Laws.Scans.{after-passed, after-refused}
 use Rattle.files.specs.Rules.{settingBytes, numberBytes, settingOf, fileCheck}
 use Rattle.files.specs.Laws.Prefixes.{Leads, whole-or-long}
 use Rattle.files.specs.Laws.Numbers.{mostNumbers}
-use Rattle.files.specs.Laws.Checks.{setting-refused, after-setting}
+use Rattle.files.specs.Laws.Checks.{setting-file-refused, after-setting}
 
 abbrev pub longestChallenge : ℕ
 longestChallenge = numberBytes * mostNumbers
@@ -55,7 +55,7 @@ module _ (s t c : List ℕ) where
   setting-start i h =
       ⊎-elim
       (λ e. ap (λ l. fileCheck l t c) e)
-      (λ l. sym (setting-refused (take i s) t c (λ z. omega arith)) ∙ setting-refused s t c (λ z. omega arith))
+      (λ l. sym (setting-file-refused (take i s) t c (λ z. omega arith)) ∙ setting-file-refused s t c (λ z. omega arith))
       (whole-or-long settingBytes i s h)
 
   module _ (right : length s ≡ settingBytes) where
@@ -81,7 +81,7 @@ by-setting-file : (s t t′ c c′ : List ℕ) → (length s ≡ settingBytes �
 by-setting-file s t t′ c c′ same =
     elim (ℕ-discrete (length s) settingBytes) [
       | yes e ↦ same e
-      | no d ↦ sym (setting-refused s t c d) ∙ setting-refused s t′ c′ d
+      | no d ↦ sym (setting-file-refused s t c d) ∙ setting-file-refused s t′ c′ d
     ]
 
 ticket-start : (s t c : List ℕ) (j : ℕ) → longestTicket < j → fileCheck s (take j t) c ≡ fileCheck s t c

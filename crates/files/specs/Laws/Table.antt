@@ -12,7 +12,7 @@ use Rattle.ticket.specs.Laws.Refusals.{setting-or-length-row}
 use Rattle.challenge.specs.Rules.{challengeCheck}
 use Rattle.soundness.specs.Laws.Answers.{TableRow, reading-row, answer-in-table}
 use Rattle.files.specs.Rules.{settingBytes, numberBytes, settingOf, numbersOf, fileCheck}
-use Rattle.files.specs.Laws.Checks.{setting-refused, same-check, as-call}
+use Rattle.files.specs.Laws.Checks.{setting-file-refused, same-check, as-call}
 
 module _ (s t c : List ℕ) where
   abbrev G : Setting
@@ -31,7 +31,7 @@ module _ (s t c : List ℕ) where
   pub file-answer-in-table : TableRow G (fileCheck s t c)
   file-answer-in-table =
       elim (ℕ-discrete (length s) settingBytes) [
-        | no d ↦ subst (TableRow G) (setting-refused s t c d) (reading-row (setting-or-length-row 1 (omega arith) (omega arith)))
+        | no d ↦ subst (TableRow G) (setting-file-refused s t c d) (reading-row (setting-or-length-row 1 (omega arith) (omega arith)))
         | yes right ↦
             elim (ℕ-discrete (length c) (numberBytes * (G .vectors * G .columns))) [
               | yes e ↦ subst (TableRow G) (sym (as-call s t c right e)) (answer-in-table G t (numbersOf c))

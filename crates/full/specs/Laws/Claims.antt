@@ -2,19 +2,18 @@
 --
 --   Space G a b c       a numbers have room for the rows of A and for those of B, b for the columns of B, c for the claims
 --   small-space         so it is for a ticket whose operands and claims are few
---   Decoded G t A B y   A and B hold the entries of the operands, row by row and column by column, and y the claims, lifted
---   decoded             so they do for a ticket that passes
+--   ListsHold G t A B y   A and B hold the entries of the operands, row by row and column by column, and y the claims, lifted
+--   lists-hold          so they do for a ticket that passes
 --   sums-ready          its sums can be compared
 --   sums-verdict        and their answer is the verdict
 --   check-refused, check-passed, check-compared   the whole check, by the answer of reading
-use Prim.Native.Nat.{ℕ, _+_, _*_, _/_, _%_, _^_, _≤_, _<_}
+use Prim.Native.Nat.{ℕ, _+_, _*_, _%_, _^_, _≤_, _<_}
 use native.Mathlib.Decide.{ℕ-discrete}
 use native.Mathlib.Omega.{arith}
 use mathlib.Core.Path.{_≡_, sym, ap, _∙_}
 use mathlib.Core.List.{List}
 use borrow.Author.Tests.{eq-eqb, ne-eqb}
 use lib.Arith.{digits-div, digits-mod}
-use lib.Dec.{eqb}
 use lib.IntN.{ℤ, pos}
 use lib.ListN.{length, getD}
 use Rattle.algebra.specs.Laws.Fills.{Filled}
@@ -27,7 +26,7 @@ use Rattle.ticket.specs.Laws.Decodes.{decodedCount, claimCount, narrowAt, lifte
 use Rattle.ticket.specs.Laws.Differences.{due-is, exactSum-is, size-due}
 use Rattle.ticket.specs.Laws.Layout.{partBytes, parts-are}
 use Rattle.ticket.specs.Laws.Lifts.{Lifted, lifted-sum, lifted-same}
-use Rattle.ticket.specs.Laws.Limits.{Within, clamped, clamped-same}
+use Rattle.ticket.specs.Laws.Limits.{clamped, clamped-same}
 use Rattle.ticket.specs.Laws.Passes.{Passed, passed-of}
 use Rattle.ticket.specs.Laws.Runs.{steps-answer}
 use Rattle.ticket.specs.Laws.Scans.{after-passed, after-refused, scan-cong}
@@ -40,7 +39,7 @@ pub record Space (G : Setting) (a b c : ℕ) : Type 0 where
   pub columns : G .inner * G .columns ≤ b
   pub claims : G .rows * G .columns ≤ c
 
-pub record Decoded (G : Setting) (t : List ℕ) (A B : List ℤ) (claims : List ℕ) : Type 0 where
+pub record ListsHold (G : Setting) (t : List ℕ) (A B : List ℤ) (claims : List ℕ) : Type 0 where
   pub rows-long : G .rows * G .inner ≤ length A
   pub columns-long : G .columns * G .inner ≤ length B
   pub row : (i k : ℕ) → i < G .rows → k < G .inner → getD A (i * G .inner + k) (pos 0) ≡ entryA G t i k
@@ -65,8 +64,8 @@ module _ {G : Setting} {t : List ℕ} (passed : Passed G t) where
       (turned : Turned A' (G .inner) (G .columns) B' B)
       (entries-of-A : Filled (pos 0) A' (decodedCount a (length A')) (narrowAt a) A)
       (claims : Filled 0 y' (claimCount q r (length y')) (liftedAt q r half (G .scale)) y) where
-    pub decoded : Decoded G t A B y
-    decoded =
+    pub lists-hold : ListsHold G t A B y
+    lists-hold =
         let room-A : G .rows * G .inner ≤ length A' = omega (arith, space .rows, entries-of-B .long) in
         let room-B : G .inner * G .columns ≤ length A' = omega (arith, space .rows, entries-of-B .long) in
         record {
@@ -78,7 +77,7 @@ module _ {G : Setting} {t : List ℕ} (passed : Passed G t) where
           claimed = claims-lifted passed q-is r-is half-is (space .claims) claims;
         }
 
-  module _ {A B : List ℤ} {y : List ℕ} (holding : Decoded G t A B y) where
+  module _ {A B : List ℤ} {y : List ℕ} (holding : ListsHold G t A B y) where
     pub sums-ready : {row : ℕ} → row ≡ G .columns → SumsReady G A B y row
     sums-ready row-is =
         record {

@@ -4,15 +4,15 @@
 --   lineSum A B m i j     the product of row i of A and column j of B, m numbers each, modulo 2^32
 --   sumSteps G A B y      all sums of the rows A and the columns B, one after the other, by the claims y
 --   SumsReady G A B y n   these are as long as the setting needs them, and n is the length of a row of sums
---   RowReady G A B y n l i a   so they are for row i, l is the lift, a the answer of the rows before, and no number of the row is large
---   row-ready             so it is for each row, where it is so for all
+--   SumRowReady G A B y n l i a   so they are for row i, l is the lift, a the answer of the rows before, and no number of the row is large
+--   sum-row-ready         so it is for each row, where it is so for all
 --   RowCompared G A B y i a   a is the answer of the rows up to row i where they agree, else that of all rows
 --   few-agree             no more sums than that agree with their claims
 --   row-untrue, row-true  the answer of the row, by how many agree up to the first that does not
 use Prim.Native.Nat.{ℕ, _+_, _*_, _/_, _%_, _^_, _≤_, _<_}
 use native.Mathlib.Nat.{mul-le-mul-left}
 use native.Mathlib.Omega.{arith}
-use mathlib.Core.Path.{_≡_, refl, sym, ap, _∙_}
+use mathlib.Core.Path.{_≡_, refl, ap, _∙_}
 use mathlib.Core.Bool.{Bool}
 use mathlib.Core.List.{List}
 use lib.Arith.{digits-div, digits-mod}
@@ -54,7 +54,7 @@ pub record SumsReady (G : Setting) (A B : List ℤ) (claims : List ℕ) (row : �
   pub columns-long : G .columns * G .inner ≤ length B
   pub claims-long : G .rows * G .columns ≤ length claims
 
-pub record RowReady (G : Setting) (A B : List ℤ) (claims : List ℕ) (row lifting i : ℕ) (before : Answer) : Type 0 where
+pub record SumRowReady (G : Setting) (A B : List ℤ) (claims : List ℕ) (row lifting i : ℕ) (before : Answer) : Type 0 where
   pub sums : SumsReady G A B claims row
   pub lifting-is : lifting ≡ lift G
   pub run : RunTo (sumSteps G A B claims) (i * G .columns) before
@@ -68,9 +68,9 @@ pub record RowReady (G : Setting) (A B : List ℤ) (claims : List ℕ) (row lift
 abbrev pub RowCompared : Setting → List ℤ → List ℤ → List ℕ → ℕ → Answer → Type 0
 RowCompared G A B claims i after = RunPast (sumSteps G A B claims) (i * G .columns + G .columns) after
 
-pub row-ready : {G : Setting} {A B : List ℤ} {claims : List ℕ} {row lifting i : ℕ} {before : Answer} → SumsReady G A B claims row
-    → lifting ≡ lift G → i < G .rows → RunTo (sumSteps G A B claims) (i * G .columns) before → RowReady G A B claims row lifting i before
-row-ready {G} sums lifting-is l run =
+pub sum-row-ready : {G : Setting} {A B : List ℤ} {claims : List ℕ} {row lifting i : ℕ} {before : Answer} → SumsReady G A B claims row
+    → lifting ≡ lift G → i < G .rows → RunTo (sumSteps G A B claims) (i * G .columns) before → SumRowReady G A B claims row lifting i before
+sum-row-ready {G} sums lifting-is l run =
     let within = row-inside (G .columns) l in
     let most = counts (sums .limits .sizes) in
     record {
@@ -86,7 +86,7 @@ row-ready {G} sums lifting-is l run =
     }
 
 module _ {G : Setting} {A B : List ℤ} {claims : List ℕ} {row lifting i : ℕ} {before : Answer}
-    (ready : RowReady G A B claims row lifting i before) where
+    (ready : SumRowReady G A B claims row lifting i before) where
   module _ {old sums : List ℕ} (long : length old ≡ row) (summed : RowSums (lineAt A (G .inner) i) B old sums) where
     alike : (j : ℕ) → j < G .columns
         → claimedFor sums (lineAt claims (G .columns) i) lifting j ≡ sumSteps G A B claims .holds (i * G .columns + j)

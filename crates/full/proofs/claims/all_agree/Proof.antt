@@ -2,7 +2,7 @@
 use Prim.Native.Nat.{_-_, _≤_}
 use native.Mathlib.Omega.{arith}
 use mathlib.Core.Path.{_≡_}
-use lib.ListN.{length, getD}
+use lib.ListN.{length}
 use Rattle.ticket.specs.Laws.All.{all, all-none, all-next}
 use Rattle.full.specs.Laws.Sums.{claimedFor}
 use borrow.Author.Needs.{needs}

@@ -1,5 +1,5 @@
 -- The loop keeps that the sums of the rows before this one agree with their claims, with the answer so far.
-use Prim.Native.Nat.{_+_, _-_, _*_, _^_, _≤_, _<_}
+use Prim.Native.Nat.{_-_, _*_, _^_, _≤_, _<_}
 use native.Mathlib.Nat.{mul-le-mul-right}
 use native.Mathlib.Omega.{arith}
 use mathlib.Core.Path.{_≡_, refl, ap, _∙_}
@@ -8,7 +8,7 @@ use Rattle.residue.specs.Laws.Modulus.{modulus-below}
 use Rattle.ticket.specs.Rules.{answer, lift}
 use Rattle.ticket.specs.Laws.Limits.{lift-small, clamped-same}
 use Rattle.ticket.specs.Laws.Runs.{RunTo, run-none, run-ended, run-at}
-use Rattle.full.specs.Laws.Sums.{sumSteps, row-ready}
+use Rattle.full.specs.Laws.Sums.{sumSteps, sum-row-ready}
 use borrow.Author.Needs.{needs}
 use Rattle.full.proofs.claims.compare.Statement.{statement}
 use Rattle.full.proofs.claims.compare.Tie as tie
@@ -43,7 +43,7 @@ loop-holds c = (refl, run-at (run-none (ap (answer 0 0 0) (omega arith))) (omega
 compare-row-requires : tie.Need-compare-row-requires Inv-loop μ-loop
 compare-row-requires c κs =
     let at = c .before .before .before in
-    row-ready (rw (at .loop .inv .0) (start (at .before) .pre)) (lifting (at .before) .0) (c .before .if1 .taken) (at .loop .inv .1)
+    sum-row-ready (rw (at .loop .inv .0) (start (at .before) .pre)) (lifting (at .before) .0) (c .before .if1 .taken) (at .loop .inv .1)
 
 same-length : tie.Need-same-length Inv-loop μ-loop
 same-length c = search needs

@@ -1,7 +1,7 @@
 use native.Mathlib.Omega.{arith}
 use mathlib.Core.Path.{sym, _∙_}
 use lib.Seq.{length-take-le}
-use Rattle.full.specs.Laws.Claims.{Decoded, decoded, sums-ready, sums-verdict}
+use Rattle.full.specs.Laws.Claims.{ListsHold, lists-hold, sums-ready, sums-verdict}
 use borrow.Author.Needs.{needs}
 use Rattle.full.proofs.claims.decode_and_compare.Statement.{statement}
 use Rattle.full.proofs.claims.decode_and_compare.Tie as tie
@@ -23,11 +23,11 @@ abbrev call : tie.After-lifted-claims → tie.Start
 call c = start (of-B c .before .before)
 
 -- what the lists then hold
-lists : (c : tie.After-lifted-claims) → Decoded (call c .args .setting) (call c .args .ticket .now)
+lists : (c : tie.After-lifted-claims) → ListsHold (call c .args .setting) (call c .args .ticket .now)
     (of-A c .narrow-entries2 .last .1 .0) (turned c .turn .last .1 .1 .1 .0) (c .lifted-claims .last .1 .1 .1 .1 .0)
 lists c =
     let parts = of-B c .before .before in
-    decoded (call c .pre .0) (call c .pre .1) (parts .before .before .before .part .ensures) (parts .before .before .part2 .ensures)
+    lists-hold (call c .pre .0) (call c .pre .1) (parts .before .before .before .part .ensures) (parts .before .before .part2 .ensures)
     (parts .before .part3 .ensures) (parts .part4 .ensures) (c .before .before .half .ensures) (of-B c .narrow-entries .ensures)
     (turned c .turn .ensures) (of-A c .narrow-entries2 .ensures) (c .lifted-claims .ensures)
 
