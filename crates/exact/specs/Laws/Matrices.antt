@@ -112,7 +112,11 @@ module _ {matrix : List ℤ} {height width : ℕ} where
   pub turned-all : {n : ℕ} {before list : List ℤ} → height * width ≤ n → TurnedTo matrix height width n before list
       → Filled (pos 0) before (height * width) (turnedNumber matrix height width) list
   turned-all {n} most turned =
-      record { long = turned .long; each = λ i l. let at = within-turned l in turned .each i l (omega (arith, digits-lt (at .1) (at .0))); rest = λ i past. turned .rest i (inl past) }
+      record {
+        long = turned .long;
+        each = λ i l. let at = within-turned l in turned .each i l (omega (arith, digits-lt (at .1) (at .0)));
+        rest = λ i past. turned .rest i (inl past);
+      }
 
 pub turned-at : {matrix : List ℤ} {height width : ℕ} {before list : List ℤ} → Turned matrix height width before list
     → height * width ≤ length matrix → height * width ≤ length before → (k j : ℕ) → k < height → j < width
