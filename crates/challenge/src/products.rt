@@ -4,7 +4,7 @@ ghost use Prim.Native.Nat.{_≤_};
 ghost use lib.ListN.{length, getD};
 ghost use Rattle.residue.specs.Rules.{modulus};
 ghost use Rattle.algebra.specs.Laws.Fills.{Filled};
-ghost use Rattle.challenge.specs.Laws.Products.{dotOf, dotWith, offsetOf, rowsTimes, DotReady, NarrowReady, ProductReady, RecordsReady, ResidueVector};
+ghost use Rattle.challenge.specs.Laws.Products.{dotOf, dotWith, offsetOf, rowsTimes, DotReady, NarrowFactors, ProductReady, RecordsReady, ResidueVector};
 use residue::ProductSum;
 use residue::Residue;
 use ticket::RECORD;
@@ -44,7 +44,7 @@ fn dot_records(records: &[u8], start: usize, vector: &[u64]) -> u32
 
 // An offset plus the sum of the products of a list of numbers below 2^16 with those of a vector, modulo p. The sum is far below 2^64.
 pub(crate) fn dot(list: &[u32], vector: &[u64], offset: u64) -> u32
-    requires { ⌜ DotReady (now list) (now vector) × NarrowReady (now list) (now vector) offset ⌝ }
+    requires { ⌜ DotReady (now list) (now vector) × NarrowFactors (now list) (now vector) offset ⌝ }
     ensures { λ r. ⌜ r ≡ dotWith offset (now (list .entry)) (now (vector .entry)) ⌝ }
 {
     let mut sum = offset;

@@ -6,7 +6,7 @@ ghost use Rattle.algebra.specs.Laws.Fills.{lineAt};
 ghost use Rattle.ticket.specs.Laws.Runs.{step-answer, steps-answer};
 ghost use Rattle.challenge.specs.Rules.{verdict};
 ghost use Rattle.challenge.specs.Laws.Rows.{rowAnswer, rowSteps, RowsReady, SidesReady};
-ghost use Rattle.challenge.specs.Laws.Sides.{Decoded, Room};
+ghost use Rattle.challenge.specs.Laws.Sides.{DecodedTo, RoomFor};
 ghost use Rattle.challenge.specs.Laws.Vectors.{vectorSteps, DecodeReady, ListReady, VectorReady};
 use crate::products::dot;
 use crate::products::offset;
@@ -92,7 +92,7 @@ fn check_vectors(
     x: &mut [u64],
     u: &mut [u64],
 ) -> Answer
-    requires { ⌜ ListReady setting (now ticket) (now list) × Decoded setting (now ticket) (now a) (now w) × Room setting (now x) (now u) ⌝ }
+    requires { ⌜ ListReady setting (now ticket) (now list) × DecodedTo setting (now ticket) (now a) (now w) × RoomFor setting (now x) (now u) ⌝ }
     ensures { λ r. ⌜ r ≡ verdict setting (now (ticket .entry)) (now (list .entry)) ⌝ }
 {
     let mut answer = Answer::PASSED;
@@ -120,7 +120,7 @@ fn check_vector(
     t: u32,
     products: u32,
 ) -> Answer
-    requires { ⌜ VectorReady setting (now ticket) (now list) t products × Decoded setting (now ticket) (now a) (now w) × Room setting (now x) (now u) ⌝ }
+    requires { ⌜ VectorReady setting (now ticket) (now list) t products × DecodedTo setting (now ticket) (now a) (now w) × RoomFor setting (now x) (now u) ⌝ }
     ensures { λ r. ⌜ r ≡ step-answer (vectorSteps setting (now (ticket .entry)) (now (list .entry))) t ⌝ }
 {
     widen(line(list, x.len(), t), x);

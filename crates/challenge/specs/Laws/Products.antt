@@ -15,7 +15,7 @@
 --   term-fits, term-more   so does its product with a 32-bit number, and one such product more is added in two words
 --   RecordsReady b a x   the records of b from a on can be multiplied with x
 --   DotReady l x      so can the numbers of l
---   NarrowReady l x o    these are below 2^16, and o is small
+--   NarrowFactors l x o  these are below 2^16, and o is small
 --   narrow-fits, narrow-more   then the sum of o and the products fits 64 bits, and one product more is added
 --   ProductReady b m x   b has m rows of records for x
 --   records-ready     then each row can be multiplied
@@ -124,11 +124,11 @@ pub record DotReady (list x : List ℕ) : Type 0 where
   pub vector : ResidueVector x
   pub long : length x ≤ length list
 
-pub record NarrowReady (list x : List ℕ) (offset : ℕ) : Type 0 where
+pub record NarrowFactors (list x : List ℕ) (offset : ℕ) : Type 0 where
   pub small : (j : ℕ) → j < length x → getD list j 0 < 2 ^ 16
   pub offset-small : offset < 2 ^ 62
 
-module _ {list x : List ℕ} {offset : ℕ} (ready : DotReady list x) (narrow : NarrowReady list x offset)
+module _ {list x : List ℕ} {offset : ℕ} (ready : DotReady list x) (narrow : NarrowFactors list x offset)
     {j s : ℕ} (l : j < length x) (reached : Reached offset (λ i. getD list i 0 * getD x i 0) j s) where
   pub narrow-fits : (getD list j 0 * (getD x j 0 % 2 ^ 32) ≤ 2 ^ 47) × (s + getD list j 0 * (getD x j 0 % 2 ^ 32) < 2 ^ 63)
   narrow-fits =

@@ -9,7 +9,7 @@
 --   RowsReady G a w x u q     the rows can be worked through after q products
 --   SidesReady a w x u o q    so can one row
 --   line-inside               a row is within its list
---   row-ready                 each row is ready, those before it having passed
+--   row-sides                 each row is ready, those before it having passed
 --   row-step                  and its answer is that of its step
 use Prim.Native.Nat.{ℕ, _+_, _*_, _≤_, _<_, _^_}
 use native.Mathlib.Omega.{arith}
@@ -27,7 +27,7 @@ use Rattle.ticket.specs.declared.Answer.{Answer}
 use Rattle.ticket.specs.Rules.{unless, answer, lift}
 use Rattle.ticket.specs.Laws.Limits.{clamped}
 use Rattle.ticket.specs.Laws.Runs.{Steps, step-answer, RunTo}
-use Rattle.challenge.specs.Laws.Products.{dotWith, offsetOf, offset-small, ResidueVector, DotReady, NarrowReady}
+use Rattle.challenge.specs.Laws.Products.{dotWith, offsetOf, offset-small, ResidueVector, DotReady, NarrowFactors}
 
 abbrev pub sidesEqual : ℕ → ℕ → List ℕ → List ℕ → List ℕ → List ℕ → Bool
 sidesEqual left right a w x u = eqb (dotWith left w x) (dotWith right a u)
@@ -71,7 +71,7 @@ pub record RowsReady (G : Setting) (a w x u : List ℕ) (products : ℕ) : Type 
 
 pub record SidesReady (a w x u : List ℕ) (right products : ℕ) : Type 0 where
   pub operands : DotReady a u
-  pub narrow : NarrowReady a u right
+  pub narrow : NarrowFactors a u right
   pub claims : DotReady w x
   pub few : products + length x + length u < 2 ^ 32
 
@@ -92,8 +92,8 @@ module _ {G : Setting} {a w x u : List ℕ} {products : ℕ} (ready : RowsReady 
   counted : b .products + length x + length u ≡ products + (i + 1) * (length x + length u)
   counted = omega (arith, ap (λ c. c .products) (run .answer-is))
 
-  pub row-ready : SidesReady r s x u right (b .products)
-  row-ready =
+  pub row-sides : SidesReady r s x u right (b .products)
+  row-sides =
       rw (r-is, s-is, right-is)
       (record {
         operands = line-ready a (ready .vector-u) l (ready .long-A);

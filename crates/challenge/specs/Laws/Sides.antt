@@ -1,7 +1,7 @@
 -- The two sides of a row by the lists that the ticket is decoded to. x is a challenge list, y a vector of it, u its product with B.
 --
---   Room G y u         y and u have as many numbers as a vector and its product with B
---   Decoded G t a w    a holds the entries of A with the bound added, w what the claims put for their sums, lifted
+--   RoomFor G y u      y and u have as many numbers as a vector and its product with B
+--   DecodedTo G t a w  a holds the entries of A with the bound added, w what the claims put for their sums, lifted
 --   same-setting       a ticket that passes has a setting within its limits
 --   entries-size, claims-size   how many entries A has, and how many claims there are
 --   decoded-by         what the decoding calls make of a ticket that passes
@@ -23,11 +23,11 @@ use Rattle.challenge.specs.Rules.{challengeAt, balanced, claimSide, oper
 use Rattle.challenge.specs.Laws.Products.{dotWith, offsetOf, side-made}
 use Rattle.challenge.specs.Laws.Rows.{rowAgrees}
 
-pub record Room (G : Setting) (y u : List ℕ) : Type 0 where
+pub record RoomFor (G : Setting) (y u : List ℕ) : Type 0 where
   pub columns : length y ≡ G .columns
   pub inner : length u ≡ G .inner
 
-pub record Decoded (G : Setting) (t a w : List ℕ) : Type 0 where
+pub record DecodedTo (G : Setting) (t a w : List ℕ) : Type 0 where
   pub entries : ShiftedEntries G t a
   pub claims : LiftedClaims G t w
 
@@ -44,14 +44,14 @@ module _ {G : Setting} {t : List ℕ} (passed : Passed G t) where
   pub decoded-by : {a before-a w before-w b q r : List ℕ} {half : ℕ}
       → partSize (part (clamped G) ofA) ≤ length before-a → partSize (part (clamped G) ofQuotients) ≤ length before-w
       → b ≡ partBytes (clamped G) t ofA → q ≡ partBytes (clamped G) t ofQuotients → r ≡ partBytes (clamped G) t ofRemainders
-      → half ≡ halfRange (clamped G) → ShiftedList b (G .bound) before-a a → LiftedList q r half (G .scale) before-w w → Decoded G t a w
+      → half ≡ halfRange (clamped G) → ShiftedList b (G .bound) before-a a → LiftedList q r half (G .scale) before-w w → DecodedTo G t a w
   decoded-by room-a room-w b-is q-is r-is half-is entries claims =
       record {
         entries = entries-shifted passed b-is (omega (arith, entries-size)) entries;
         claims = claims-lifted passed q-is r-is half-is (omega (arith, claims-size)) claims;
       }
 
-  module _ {a w : List ℕ} (decoded : Decoded G t a w) (x : List ℕ) (τ : ℕ) (y u : List ℕ) (room : Room G y u)
+  module _ {a w : List ℕ} (decoded : DecodedTo G t a w) (x : List ℕ) (τ : ℕ) (y u : List ℕ) (room : RoomFor G y u)
       (vector : (j : ℕ) → j < G .columns → getD y j 0 ≡ challengeAt G x τ j) (product : (k : ℕ) → k < G .inner → getD u k 0 ≡ productB G t x τ k)
       {i : ℕ} (row : i < G .rows) where
     claims-by : dotWith (offsetOf (lift (clamped G)) y) (lineAt w (length y) i) y ≡ claimSide G t x τ i

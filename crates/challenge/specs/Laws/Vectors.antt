@@ -39,7 +39,7 @@ use Rattle.challenge.specs.Rules.{challengeAt, balanced, productB, first
 use Rattle.challenge.specs.Laws.Lists.{Entries}
 use Rattle.challenge.specs.Laws.Products.{ResidueVector, ProductReady, rowsTimes, dotOf}
 use Rattle.challenge.specs.Laws.Rows.{RowsReady, rowSteps, line-inside}
-use Rattle.challenge.specs.Laws.Sides.{Room, Decoded, same-setting, entries-size, claims-size, agrees-balanced}
+use Rattle.challenge.specs.Laws.Sides.{RoomFor, DecodedTo, same-setting, entries-size, claims-size, agrees-balanced}
 
 pub record ListReady (G : Setting) (t x : List ℕ) : Type 0 where
   pub passed : Passed G t
@@ -79,7 +79,7 @@ vectors-answer G t x = refl
 pub record VectorReady (G : Setting) (t x : List ℕ) (τ products : ℕ) : Type 0 where
   pub list : ListReady G t x
   pub within : τ < G .vectors
-  pub made : products ≡ τ * vectorProducts G
+  pub products-are : products ≡ τ * vectorProducts G
   pub few : products + vectorProducts G < 2 ^ 32
 
 pub vector-ready : {G : Setting} {t x : List ℕ} {τ : ℕ} {a : Answer} → ListReady G t x → RunTo (vectorSteps G t x) τ a → τ < G .vectors
@@ -91,7 +91,7 @@ vector-ready {G} {τ = τ} {a} ready run l =
     record {
       list = ready;
       within = l;
-      made = made;
+      products-are = made;
       few = omega (arith, row-inside (vectorProducts G) l, mul-le-mul (counts .sizes .vectors .1) most);
     }
 
@@ -117,10 +117,10 @@ module _ {G : Setting} {t x : List ℕ} {τ products : ℕ} (ready : VectorReady
             rw (entries j m) (ready .list .list .below (τ * G .columns + j) (omega (arith, vector-inside, ready .list .list .size)));
       }
 
-  pub line-within : {before-y before-u : List ℕ} → Room G before-y before-u → τ * length before-y + length before-y ≤ length x
+  pub line-within : {before-y before-u : List ℕ} → RoomFor G before-y before-u → τ * length before-y + length before-y ≤ length x
   line-within room = rw (room .columns) vector-inside
 
-  module _ {before-y before-u : List ℕ} (room : Room G before-y before-u) {z : List ℕ} (z-is : z ≡ lineAt x (length before-y) τ) where
+  module _ {before-y before-u : List ℕ} (room : RoomFor G before-y before-u) {z : List ℕ} (z-is : z ≡ lineAt x (length before-y) τ) where
     line-is : z ≡ v
     line-is = z-is ∙ ap (λ n. lineAt x n τ) (room .columns)
 
@@ -158,10 +158,10 @@ module _ {G : Setting} {t x : List ℕ} {τ products : ℕ} (ready : VectorReady
               below = λ k l. rw (made .each k (omega (arith, made .long))) (mod-lt _ modulus-positive);
             }
 
-        rooms : Room G y u
+        rooms : RoomFor G y u
         rooms = record { columns = ap length y-is ∙ vector-long; inner = made .long ∙ room .inner }
 
-        module _ {a w : List ℕ} (decoded : Decoded G t a w) where
+        module _ {a w : List ℕ} (decoded : DecodedTo G t a w) where
           pub rows-ready : RowsReady G a w y u (products + G .inner * G .columns)
           rows-ready =
               let passed = ready .list .passed in
@@ -184,7 +184,7 @@ module _ {G : Setting} {t x : List ℕ} {τ products : ℕ} (ready : VectorReady
               ∙ scan-cong (G .rows) _ (balanced G t x τ) _ _
               (λ i l. agrees-balanced (ready .list .passed) decoded x τ y u rooms (λ j m. ap (λ q. getD q j 0) y-is ∙ entries j m) product-made l)
               ∙ scan-by-first (G .rows) (balanced G t x τ) _ _
-              ∙ rw (rooms .columns, rooms .inner, ready .made, counted)
+              ∙ rw (rooms .columns, rooms .inner, ready .products-are, counted)
             where
               counted : τ * vectorProducts G + G .inner * G .columns + G .rows * (G .columns + G .inner) ≡ (τ + 1) * vectorProducts G
               counted = omega arith

@@ -7,7 +7,7 @@ use Rattle.ticket.specs.Rules.{answer, lift}
 use Rattle.ticket.specs.Laws.Limits.{clamped}
 use Rattle.ticket.specs.Laws.Runs.{step-answer, RunTo, run-none, run-next, run-stopped, run-ended}
 use Rattle.challenge.specs.Laws.Products.{offsetOf}
-use Rattle.challenge.specs.Laws.Rows.{rowSteps, line-inside, row-ready, row-step}
+use Rattle.challenge.specs.Laws.Rows.{rowSteps, line-inside, row-sides, row-step}
 use Rattle.challenge.proofs.rows.check_rows.Statement.{statement}
 use Rattle.challenge.proofs.rows.check_rows.Tie as tie
 
@@ -58,7 +58,7 @@ line-requires-2 c κs = line-inside _ (c .before .if1 .taken) (start (c .before 
 check-row-requires : tie.Need-check-row-requires Inv-loop μ-loop
 check-row-requires c κs =
     let at = c .before .before .before .before in
-    row-ready (start at .pre) (at .loop .inv) (c .before .before .if1 .taken) (left at) (at .before .offset2 .ensures)
+    row-sides (start at .pre) (at .loop .inv) (c .before .before .if1 .taken) (left at) (at .before .offset2 .ensures)
     (c .before .line .ensures) (c .line2 .ensures)
 
 returns : tie.Need-returns Inv-loop μ-loop

@@ -5,13 +5,13 @@ use borrow.Author.Needs.{needs}
 use mathlib.Core.Path.{ap, _∙_}
 use Rattle.ticket.specs.Rules.{answer}
 use Rattle.ticket.specs.Laws.Runs.{RunTo, run-none, run-next, run-stopped, run-ended}
-use Rattle.challenge.specs.Laws.Sides.{Room}
+use Rattle.challenge.specs.Laws.Sides.{RoomFor}
 use Rattle.challenge.specs.Laws.Vectors.{vectorSteps, vectors-answer, vector-ready}
 use Rattle.challenge.proofs.rows.check_vectors.Statement.{statement}
 use Rattle.challenge.proofs.rows.check_vectors.Tie as tie
 
 abbrev Inv-loop : tie.InvT-loop
-Inv-loop setting ticket list a w x₀ u₀ answer₀ t₀ x u answer t = Room setting x u × RunTo (vectorSteps setting ticket list) t answer
+Inv-loop setting ticket list a w x₀ u₀ answer₀ t₀ x u answer t = RoomFor setting x u × RunTo (vectorSteps setting ticket list) t answer
 
 abbrev μ-loop : tie.MeasureT-loop
 μ-loop setting ticket list a w x₀ u₀ answer₀ t₀ x u answer t = setting .vectors - t
