@@ -21,15 +21,15 @@ pub(crate) fn product(matrix: &[u8], vector: &[u64], u: &mut [u64])
     let mut k = 0;
     while k < u.len() {
         let start = k * vector.len();
-        u[k] = dot_records(matrix, start, vector) as u64;
+        u[k] = dot_records(matrix, start, vector).0 as u64;
         k += 1;
     }
 }
 
 // The sum of the products of the values of the records from start on with the numbers of a vector, modulo p.
-fn dot_records(records: &[u8], start: usize, vector: &[u64]) -> u32
+fn dot_records(records: &[u8], start: usize, vector: &[u64]) -> Residue
     requires { ⌜ RecordsReady (now records) start (now vector) ⌝ }
-    ensures { λ r. ⌜ r ≡ dotOf (now (records .entry)) start (now (vector .entry)) ⌝ }
+    ensures { λ r. ⌜ r .0 ≡ dotOf (now (records .entry)) start (now (vector .entry)) ⌝ }
 {
     let mut sum = ProductSum::new();
     let mut r = 0;
@@ -39,13 +39,13 @@ fn dot_records(records: &[u8], start: usize, vector: &[u64]) -> u32
         sum = sum.add((value.0 as u64) * (vector[r] % WORD));
         r += 1;
     }
-    sum.residue().0
+    sum.residue()
 }
 
 // An offset plus the sum of the products of a list of numbers below 2^16 with those of a vector, modulo p. The sum is far below 2^64.
-pub(crate) fn dot(list: &[u32], vector: &[u64], offset: u64) -> u32
+pub(crate) fn dot(list: &[u32], vector: &[u64], offset: u64) -> Residue
     requires { ⌜ DotReady (now list) (now vector) × NarrowFactors (now list) (now vector) offset ⌝ }
-    ensures { λ r. ⌜ r ≡ dotWith offset (now (list .entry)) (now (vector .entry)) ⌝ }
+    ensures { λ r. ⌜ r .0 ≡ dotWith offset (now (list .entry)) (now (vector .entry)) ⌝ }
 {
     let mut sum = offset;
     let mut i = 0;
@@ -53,13 +53,13 @@ pub(crate) fn dot(list: &[u32], vector: &[u64], offset: u64) -> u32
         sum += (list[i] as u64) * (vector[i] % WORD);
         i += 1;
     }
-    Residue::reduce(sum).0
+    Residue::reduce(sum)
 }
 
 // The same of a list of any numbers.
-pub(crate) fn wide_dot(list: &[u32], vector: &[u64], offset: u64) -> u32
+pub(crate) fn wide_dot(list: &[u32], vector: &[u64], offset: u64) -> Residue
     requires { ⌜ DotReady (now list) (now vector) ⌝ }
-    ensures { λ r. ⌜ r ≡ dotWith offset (now (list .entry)) (now (vector .entry)) ⌝ }
+    ensures { λ r. ⌜ r .0 ≡ dotWith offset (now (list .entry)) (now (vector .entry)) ⌝ }
 {
     let mut sum = ProductSum::new();
     let mut c = 0;
@@ -67,7 +67,7 @@ pub(crate) fn wide_dot(list: &[u32], vector: &[u64], offset: u64) -> u32
         sum = sum.add((list[c] as u64) * (vector[c] % WORD));
         c += 1;
     }
-    sum.add(offset).residue().0
+    sum.add(offset).residue()
 }
 
 // What takes a shift of the other factors off a sum of products with a vector: the vector's sum times the negative of the shift,

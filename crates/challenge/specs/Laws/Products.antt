@@ -6,7 +6,7 @@
 --   dotWith o l x     o plus the sum of the products of the numbers of l and x, modulo p
 --   side-made         with the shift taken off, that is the sum of the integers that l holds shifted, times x, modulo p
 --   ResidueVector x   x has no more numbers than a row of a matrix, and they are least residues
---   offset-small      an offset is below 2^62
+--   offset-small      an offset is at most 2^62
 --   Reached o f n s   s is o plus the sum of the first n values of f
 --   reached-none, reached-more, reached-all   no value is added yet, one more, and all
 --   reduced           the least residue of a number by another form of that
@@ -63,11 +63,11 @@ pub record ResidueVector (x : List ℕ) : Type 0 where
   pub short : length x ≤ mostInner
   pub below : (j : ℕ) → j < length x → getD x j 0 < modulus
 
-pub offset-small : (shift n : ℕ) (x : ℕ → ℕ) → taken-off modulus shift n x < 2 ^ 62
+pub offset-small : (shift n : ℕ) (x : ℕ → ℕ) → taken-off modulus shift n x ≤ 2 ^ 62
 unfolding taken-off
 offset-small shift n x =
-    let a : modulus - shift ≤ 2 ^ 31 - 1 = omega (arith, modulus-below) in
-    let b : sum n x % modulus ≤ 2 ^ 31 - 1 = omega (arith, modulus-below, mod-lt (sum n x) modulus-positive) in
+    let a : modulus - shift ≤ 2 ^ 31 = omega (arith, modulus-below) in
+    let b : sum n x % modulus ≤ 2 ^ 31 = omega (arith, modulus-below, mod-lt (sum n x) modulus-positive) in
     omega (arith, mul-le-mul a b)
 
 abbrev pub Reached : ℕ → (ℕ → ℕ) → ℕ → ℕ → Type 0
@@ -126,7 +126,7 @@ pub record DotReady (list x : List ℕ) : Type 0 where
 
 pub record NarrowFactors (list x : List ℕ) (offset : ℕ) : Type 0 where
   pub small : (j : ℕ) → j < length x → getD list j 0 < 2 ^ 16
-  pub offset-small : offset < 2 ^ 62
+  pub offset-most : offset ≤ 2 ^ 62
 
 module _ {list x : List ℕ} {offset : ℕ} (ready : DotReady list x) (narrow : NarrowFactors list x offset)
     {j s : ℕ} (l : j < length x) (reached : Reached offset (λ i. getD list i 0 * getD x i 0) j s) where
@@ -140,7 +140,7 @@ module _ {list x : List ℕ} {offset : ℕ} (ready : DotReady list x) (narrow : 
               (λ i m. ready .vector .below i (omega arith)),
           sum-more j (λ i. getD list i 0 * getD x i 0),
           ready .vector .short,
-          narrow .offset-small,
+          narrow .offset-most,
         ),
       )
 

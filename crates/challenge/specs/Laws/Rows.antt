@@ -102,7 +102,7 @@ module _ {G : Setting} {a w x u : List ℕ} {products : ℕ} (ready : RowsReady 
               small = λ k m.
                   rw (part-of a (i * length u) (length u) k 0 m)
                   (ready .small (i * length u + k) (omega (arith, row-inside (length u) l)));
-              offset-small = offset-small (G .bound) (length u) (λ j. getD u j 0);
+              offset-most = offset-small (G .bound) (length u) (λ j. getD u j 0);
             };
         claims = line-ready w (ready .vector-x) l (ready .long-claims);
         few = omega (arith, counted, row-inside (length x + length u) l, ready .few);

@@ -33,7 +33,9 @@ dot-records-requires : tie.Need-dot-records-requires Inv-loop μ-loop
 dot-records-requires c κs = records-ready (start (c .before) .pre) (more c)
 
 loop-again : tie.Need-loop-again Inv-loop μ-loop
-loop-again c = (omega arith, filled-more (more (c .before)) (c .before .before .loop .inv .1) (c .dot-records .ensures))
+loop-again c =
+    let in-loop = c .before .before in
+    (omega arith, filled-more (more in-loop) (in-loop .before .loop .inv .1) (c .before .dot-records .ensures))
 
 returns : tie.Need-returns Inv-loop μ-loop
 returns c =

@@ -4,10 +4,14 @@ use Rattle.challenge.proofs.rows.check_row.Statement.{statement}
 use Rattle.challenge.proofs.rows.check_row.Tie as tie
 
 returns : tie.Need-returns
-returns c = row-caught (c .before .before .wide-dot .ensures) (c .before .dot .ensures) _ _ (c .if1 .taken)
+returns c =
+    let made = c .before .before .before in
+    row-caught (made .before .wide-dot .ensures) (made .dot .ensures) _ _ (c .if1 .taken)
 
 returns-2 : tie.Need-returns-2
-returns-2 c = row-balanced (c .before .before .wide-dot .ensures) (c .before .dot .ensures) _ _ (c .if1 .left)
+returns-2 c =
+    let made = c .before .before .before in
+    row-balanced (made .before .wide-dot .ensures) (made .dot .ensures) _ _ (c .if1 .left)
 
 pub check-row-spec : {M : Type 1} → statement M
 check-row-spec =
