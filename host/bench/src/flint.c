@@ -51,11 +51,6 @@ void bench_flint_free(matrices *m) {
     free(m);
 }
 
-/* u = b x */
-void bench_flint_u(matrices *m) {
-    nmod_mat_mul(m->u, m->b, m->x);
-}
-
 /* c x = a (b x) */
 int bench_flint_freivalds(matrices *m) {
     nmod_mat_mul(m->u, m->b, m->x);

@@ -19,7 +19,6 @@ mod library {
             x: *const u32,
         ) -> *mut c_void;
         pub fn bench_flint_free(matrices: *mut c_void);
-        pub fn bench_flint_u(matrices: *mut c_void);
         pub fn bench_flint_freivalds(matrices: *mut c_void) -> c_int;
         pub fn bench_flint_product(matrices: *mut c_void);
         pub fn bench_flint_equal(matrices: *mut c_void) -> c_int;
@@ -46,11 +45,6 @@ impl Matrices {
         assert!(sizes.iter().all(|(matrix, size)| matrix.len() == *size as usize));
         let [a, b, c, x] = [a, b, c, x].map(<[u32]>::as_ptr);
         Matrices(unsafe { library::bench_flint_new(2_147_483_647, rows, inner, columns, vectors, a, b, c, x) })
-    }
-
-    /// u = B·X.
-    pub fn u(&mut self) {
-        unsafe { library::bench_flint_u(self.0) }
     }
 
     /// Whether C·X = A·(B·X).

@@ -1,30 +1,31 @@
-//! Times the library beside other programs of the same rules, in one run and on
-//! the same true tickets. Run by hand:
+//! Times the library, in one run and on the same true tickets. Run by hand:
 //!
 //!     cargo run --release -p bench
 //!
-//! Beside the library stand the calls as one writes them first, the calls as
-//! fast as they get on every x86-64 processor, and, where it is installed, FLINT:
-//! of the challenge check, Freivalds' check of matrices that are in memory, with
-//! nothing read or tested, and of the full check, the product.
+//! Whole calls are set beside the calls as one writes them first and, where it is
+//! installed, FLINT: of the challenge check, Freivalds' check of matrices that are
+//! in memory, with nothing read or tested, and of the full check, the product.
+//! Parts of calls are set beside kernels, loops that do the same work as fast as
+//! every x86-64 processor can.
 //!
 //! All are timed in turns, so that whatever else the machine does falls on all;
 //! as it can only lengthen a time, the least time over the rounds is taken.
 
-mod best;
 #[cfg(flint)]
 mod flint;
+mod kernels;
 mod straightforward;
 mod table;
 #[cfg(test)]
 mod tests;
 
+#[cfg(flint)]
 use std::cell::RefCell;
 use std::hint::black_box;
 use std::time::{Duration, Instant};
 
 use dikdumar::{Answer, Setting};
-use table::{Line, Table};
+use table::{Call, Part, Table};
 
 /// How long the rounds go on.
 const ROUNDS: Duration = Duration::from_secs(30);
@@ -40,34 +41,19 @@ struct Program {
     challenge_check: fn(Setting, &[u8], &[u32]) -> Answer,
     full_check: fn(Setting, &[u8]) -> Answer,
     write_ticket: fn(Setting, &[i32], &[i32], &mut [u8]) -> Answer,
-    /// How many rows and how many vectors the challenge check takes at once, to
-    /// tell the times of its parts.
-    rows_at_once: u32,
-    vectors_at_once: u32,
 }
 
 /// The library first.
-static PROGRAMS: [Program; 3] = [
+static PROGRAMS: [Program; 2] = [
     Program {
         challenge_check: dikdumar::challenge_check,
         full_check: dikdumar::full_check,
         write_ticket: dikdumar::write_ticket,
-        rows_at_once: 1,
-        vectors_at_once: 1,
     },
     Program {
         challenge_check: straightforward::challenge_check,
         full_check: straightforward::full_check,
         write_ticket: straightforward::write_ticket,
-        rows_at_once: 1,
-        vectors_at_once: 1,
-    },
-    Program {
-        challenge_check: best::challenge_check,
-        full_check: best::full_check,
-        write_ticket: best::write_ticket,
-        rows_at_once: 4,
-        vectors_at_once: 4,
     },
 ];
 
@@ -109,14 +95,11 @@ struct Input {
     setting: Setting,
     a: Vec<i32>,
     b: Vec<i32>,
+    /// The exact sums of A·B.
+    sums: Vec<i32>,
     ticket: Vec<u8>,
     false_ticket: Vec<u8>,
     list: Vec<u32>,
-    /// For each number of vectors and each program a list with which the false
-    /// ticket is caught at the first of the last vectors that it takes at once.
-    caught_lists: [[Vec<u32>; PROGRAMS.len()]; 2],
-    /// What the writers write.
-    output: RefCell<Vec<u8>>,
     #[cfg(flint)]
     flint: [RefCell<flint::Matrices>; 2],
 }
@@ -143,6 +126,13 @@ impl Input {
         };
         let a = entries(rows * inner, 0);
         let b = entries(inner * columns, rows * inner);
+        let sum = |i: u32, j: u32| -> i32 {
+            let product = |k: u32| a[(i * inner + k) as usize] * b[(k * columns + j) as usize];
+            (0..inner).map(product).sum()
+        };
+        let sums: Vec<i32> = (0..rows * columns)
+            .map(|claim| sum(claim / columns, claim % columns))
+            .collect();
         let [wide_a, wide_b] = [&a, &b].map(|matrix| matrix.iter().copied().map(i64::from).collect::<Vec<_>>());
         let ticket = apart::true_ticket(&setting, &wide_a, &wide_b);
         let list: Vec<u32> = (0..most * columns).map(|index| spread(index) % 2_147_483_647).collect();
@@ -152,51 +142,34 @@ impl Input {
         false_ticket[remainder] ^= 1;
         Input {
             setting: Setting::from(setting.numbers()),
-            caught_lists: VECTORS.map(|vectors| {
-                PROGRAMS.each_ref().map(|program| {
-                    let mut list = list[..(vectors * columns) as usize].to_vec();
-                    let passed = vectors - program.vectors_at_once.min(vectors);
-                    for vector in list.chunks_exact_mut(columns as usize).take(passed as usize) {
-                        vector[0] = 0;
-                    }
-                    list
-                })
-            }),
-            output: RefCell::new(vec![0; ticket.len()]),
             #[cfg(flint)]
             flint: VECTORS.map(|vectors| {
-                let residues = |matrix: &[i32]| -> Vec<u32> {
-                    matrix
-                        .iter()
-                        .map(|&entry| dikdumar::residue::from_signed(entry))
-                        .collect()
-                };
-                let sum = |i: u32, j: u32| -> i32 {
-                    let product = |k: u32| a[(i * inner + k) as usize] * b[(k * columns + j) as usize];
-                    (0..inner).map(product).sum()
-                };
-                let c: Vec<i32> = (0..rows * columns)
-                    .map(|claim| sum(claim / columns, claim % columns))
-                    .collect();
+                let [a, b, c] = [&a, &b, &sums].map(|matrix| -> Vec<u32> {
+                    let residues = matrix.iter().map(|&entry| dikdumar::residue::from_signed(entry));
+                    residues.collect()
+                });
                 // The vectors as columns.
                 let x: Vec<u32> = (0..columns * vectors)
                     .map(|index| list[(index % vectors * columns + index / vectors) as usize])
                     .collect();
-                let sizes = [rows, inner, columns, vectors];
-                RefCell::new(flint::Matrices::new(
-                    sizes,
-                    &residues(&a),
-                    &residues(&b),
-                    &residues(&c),
-                    &x,
-                ))
+                RefCell::new(flint::Matrices::new([rows, inner, columns, vectors], &a, &b, &c, &x))
             }),
             a,
             b,
+            sums,
             ticket,
             false_ticket,
             list,
         }
+    }
+
+    /// The setting and the list for so many vectors.
+    fn challenge(&self, vectors: u32) -> (Setting, &[u32]) {
+        let setting = Setting {
+            vectors,
+            ..self.setting
+        };
+        (setting, &self.list[..(vectors * setting.columns) as usize])
     }
 
     fn size(&self) -> String {
@@ -272,176 +245,203 @@ impl Measurement<'_> {
     }
 }
 
-/// What is measured of one size, by each program, and by FLINT last.
+/// What is measured of one size: whole calls by each program, and by FLINT last,
+/// and parts, where the kernels take the size.
 struct Plan {
-    challenge: [Challenge; 2],
+    challenge_check: [Vec<Number>; 2],
     full_check: Vec<Number>,
     write_ticket: Vec<Number>,
+    parts: Option<Parts>,
 }
 
-/// For one number of vectors.
-struct Challenge {
-    vectors: u32,
-    whole: Vec<Number>,
+/// What tells the times of the library's parts, and the kernels.
+struct Parts {
     /// Ends at a list of the wrong length.
-    reading: Vec<Number>,
-    /// Ends at row 0 of the last vectors, after their u.
-    caught: Vec<Number>,
-    #[cfg(flint)]
-    u: Number,
+    reading: Number,
+    /// Ends at row 0 of the only vector.
+    caught: Number,
+    kernels: Kernels,
+}
+
+struct Kernels {
+    reading: Number,
+    product: Number,
+    rows: Number,
+    sums: Number,
+    records: Number,
 }
 
 impl Plan {
     fn new<'a>(input: &'a Input, clock: &mut Clock<'a>) -> Plan {
-        let challenge = [0, 1].map(|index| Challenge::new(input, index, clock));
-        let answers = PROGRAMS
-            .each_ref()
-            .map(|program| (program.full_check)(input.setting, &input.ticket));
-        assert_same(&answers, 0);
-        let full_check = PROGRAMS
-            .each_ref()
-            .map(|program| clock.add(move || (program.full_check)(black_box(input.setting), black_box(&input.ticket))));
-        let write_ticket = PROGRAMS.each_ref().map(|program| {
-            clock.add(move || {
-                let mut output = input.output.borrow_mut();
-                let (a, b) = (black_box(&input.a), black_box(&input.b));
-                (program.write_ticket)(black_box(input.setting), a, b, black_box(&mut output))
-            })
-        });
-        assert_same(
-            &PROGRAMS.each_ref().map(|program| {
-                let mut output = vec![0; input.ticket.len()];
-                let answer = (program.write_ticket)(input.setting, &input.a, &input.b, &mut output);
-                assert!(output == input.ticket, "the true ticket is written");
-                answer
-            }),
-            0,
-        );
-        Plan {
-            challenge,
-            #[cfg(not(flint))]
-            full_check: full_check.to_vec(),
-            #[cfg(flint)]
-            full_check: {
-                let flint = &input.flint[0];
-                flint.borrow_mut().product();
-                assert!(flint.borrow_mut().product_is_c(), "the product is that of the claims");
-                let product = clock.add(|| flint.borrow_mut().product());
-                full_check.into_iter().chain([product]).collect()
-            },
-            write_ticket: write_ticket.to_vec(),
-        }
-    }
-
-    fn lines(&self, input: &Input, clock: &Clock, table: &mut Table) {
-        let times =
-            |numbers: &[Number]| -> Vec<f64> { numbers.iter().map(|&number| clock.nanoseconds(number)).collect() };
-        for challenge in &self.challenge {
-            challenge.lines(input, clock, table);
-        }
-        let size = input.size();
-        table.add(Line::whole(&size, None, "full check", &times(&self.full_check)));
-        table.add(Line::whole(&size, None, "writer", &times(&self.write_ticket)));
-    }
-}
-
-impl Challenge {
-    fn new<'a>(input: &'a Input, index: usize, clock: &mut Clock<'a>) -> Challenge {
-        let vectors = VECTORS[index];
-        let setting = Setting {
-            vectors,
-            ..input.setting
-        };
-        let list = &input.list[..(vectors * setting.columns) as usize];
-        let shorter = &list[1..];
-        let mut call = |program: &'static Program, ticket: &'a [u8], list: &'a [u32], number: u32| -> Number {
-            let answers = PROGRAMS
-                .each_ref()
-                .map(|program| (program.challenge_check)(setting, ticket, list));
-            assert_same(&answers, number);
-            clock.add(move || (program.challenge_check)(black_box(setting), black_box(ticket), black_box(list)))
-        };
-        let mut of_all = |ticket: &'a [u8], list: &'a [u32], number: u32| -> Vec<Number> {
-            PROGRAMS
-                .iter()
-                .map(|program| call(program, ticket, list, number))
-                .collect()
-        };
         #[cfg_attr(not(flint), allow(unused_mut))]
-        let mut whole = of_all(&input.ticket, list, 0);
-        let reading = of_all(&input.ticket, shorter, 10);
-        let caught = PROGRAMS
+        let mut challenge_check = VECTORS.map(|vectors| {
+            let (setting, list) = input.challenge(vectors);
+            let numbers = PROGRAMS
+                .iter()
+                .map(|program| challenge(program, setting, &input.ticket, list, 0, clock));
+            numbers.collect::<Vec<Number>>()
+        });
+        #[cfg_attr(not(flint), allow(unused_mut))]
+        let mut full_check: Vec<Number> = PROGRAMS
             .iter()
-            .zip(&input.caught_lists[index])
-            .map(|(program, list)| call(program, &input.false_ticket, list, 12))
+            .map(|program| {
+                assert_eq!((program.full_check)(input.setting, &input.ticket).number, 0);
+                clock.add(move || (program.full_check)(black_box(input.setting), black_box(&input.ticket)))
+            })
+            .collect();
+        let write_ticket = PROGRAMS
+            .iter()
+            .map(|program| {
+                let mut output = vec![0; input.ticket.len()];
+                let mut call = move || {
+                    let (a, b) = (black_box(&input.a), black_box(&input.b));
+                    (program.write_ticket)(black_box(input.setting), a, b, black_box(&mut output))
+                };
+                assert_eq!(call().number, 0);
+                clock.add(call)
+            })
             .collect();
         #[cfg(flint)]
-        let u = {
-            let flint = &input.flint[index];
-            assert!(flint.borrow_mut().freivalds(), "the claims are true");
-            whole.push(clock.add(|| flint.borrow_mut().freivalds()));
-            clock.add(|| flint.borrow_mut().u())
-        };
-        Challenge {
-            vectors,
-            whole,
-            reading,
-            caught,
-            #[cfg(flint)]
-            u,
+        {
+            for (numbers, flint) in challenge_check.iter_mut().zip(&input.flint) {
+                assert!(flint.borrow_mut().freivalds(), "the claims are true");
+                numbers.push(clock.add(|| flint.borrow_mut().freivalds()));
+            }
+            let flint = &input.flint[0];
+            flint.borrow_mut().product();
+            assert!(flint.borrow_mut().product_is_c(), "the product is that of the claims");
+            full_check.push(clock.add(|| flint.borrow_mut().product()));
+        }
+        Plan {
+            challenge_check,
+            full_check,
+            write_ticket,
+            parts: kernels::fit(input.setting).then(|| Parts::new(input, clock)),
         }
     }
 
     fn lines(&self, input: &Input, clock: &Clock, table: &mut Table) {
-        let times =
-            |numbers: &[Number]| -> Vec<f64> { numbers.iter().map(|&number| clock.nanoseconds(number)).collect() };
-        let [whole, reading, caught] = [&self.whole, &self.reading, &self.caught].map(|numbers| times(numbers));
-        let size = input.size();
-        let vectors = Some(self.vectors);
-        table.add(Line::whole(&size, vectors, "challenge check", &whole));
-        table.add(Line::part(&size, vectors, "reading", &reading));
-
-        let after_reading: Vec<f64> = whole
-            .iter()
-            .zip(&reading)
-            .map(|(whole, reading)| whole - reading)
-            .collect();
-        if PROGRAMS
-            .iter()
-            .any(|program| program.rows_at_once >= input.setting.rows)
-        {
-            // Nothing is left after row 0, so the two are not told apart.
-            #[cfg(flint)]
-            let after_reading = [&after_reading[..], &whole[PROGRAMS.len()..]].concat();
-            table.add(Line::part(&size, vectors, "u and rows", &after_reading));
-            return;
+        let mut add = |vectors, name, numbers: &[Number]| {
+            table.calls.push(Call {
+                size: input.size(),
+                vectors,
+                name,
+                times: numbers.iter().map(|&number| clock.nanoseconds(number)).collect(),
+            });
+        };
+        for (vectors, numbers) in VECTORS.iter().zip(&self.challenge_check) {
+            add(Some(*vectors), "challenge check", numbers);
         }
-        // The check that is caught has all done but the rows after the first ones
-        // of the last vectors.
-        let mut of_u = Vec::new();
-        let mut of_rows = Vec::new();
-        for (index, program) in PROGRAMS.iter().enumerate() {
-            let left_out = program.vectors_at_once.min(self.vectors) * (input.setting.rows - program.rows_at_once);
-            let row = (whole[index] - caught[index]) / f64::from(left_out);
-            let rows = row * f64::from(self.vectors * input.setting.rows);
-            of_rows.push(rows);
-            of_u.push(after_reading[index] - rows);
+        add(None, "full check", &self.full_check);
+        add(None, "writer", &self.write_ticket);
+        if let Some(parts) = &self.parts {
+            parts.lines(self, input, clock, table);
         }
-        #[cfg(flint)]
-        {
-            let u = clock.nanoseconds(self.u);
-            of_u.push(u);
-            of_rows.push(whole[PROGRAMS.len()] - u);
-        }
-        table.add(Line::part(&size, vectors, "u", &of_u));
-        table.add(Line::part(&size, vectors, "rows", &of_rows));
     }
 }
 
-/// All answers are the same, and have this number.
-fn assert_same(answers: &[Answer], number: u32) {
-    for answer in answers {
-        assert_eq!(*answer, answers[0], "all give the same answer");
+/// Times a challenge check, whose answer has this number.
+fn challenge<'a>(
+    program: &'a Program,
+    setting: Setting,
+    ticket: &'a [u8],
+    list: &'a [u32],
+    number: u32,
+    clock: &mut Clock<'a>,
+) -> Number {
+    assert_eq!((program.challenge_check)(setting, ticket, list).number, number);
+    clock.add(move || (program.challenge_check)(black_box(setting), black_box(ticket), black_box(list)))
+}
+
+impl Parts {
+    fn new<'a>(input: &'a Input, clock: &mut Clock<'a>) -> Parts {
+        let (setting, list) = input.challenge(1);
+        Parts {
+            reading: challenge(&PROGRAMS[0], setting, &input.ticket, &list[1..], 10, clock),
+            caught: challenge(&PROGRAMS[0], setting, &input.false_ticket, list, 12, clock),
+            kernels: Kernels::new(input, list, clock),
+        }
     }
-    assert_eq!(answers[0].number, number);
+
+    fn lines(&self, plan: &Plan, input: &Input, clock: &Clock, table: &mut Table) {
+        let kernels = &self.kernels;
+        let kernel = |number| Some(clock.nanoseconds(number));
+        let [one, most] = [0, 1].map(|index| clock.nanoseconds(plan.challenge_check[index][0]));
+        let reading = clock.nanoseconds(self.reading);
+        // The check that is caught has all done but the rows after the first.
+        let count = f64::from(input.setting.rows);
+        let rows = (one - clock.nanoseconds(self.caught)) / (count - 1.0) * count;
+        let vector = (most - one) / f64::from(VECTORS[1] - VECTORS[0]);
+        let full_check = clock.nanoseconds(plan.full_check[0]);
+        let writer = clock.nanoseconds(plan.write_ticket[0]);
+        let writer_kernels = clock.nanoseconds(kernels.sums) + clock.nanoseconds(kernels.records);
+
+        let mut add = |name, library, kernel| {
+            let size = input.size();
+            table.parts.push(Part {
+                size,
+                name,
+                library,
+                kernel,
+            });
+        };
+        add("reading", reading, kernel(kernels.reading));
+        add("decoding A and the claims", one - vector - reading, None);
+        add("u, one vector", vector - rows, kernel(kernels.product));
+        add("rows, one vector", rows, kernel(kernels.rows));
+        add(
+            "sums: full check without reading",
+            full_check - reading,
+            kernel(kernels.sums),
+        );
+        add("sums and records: writer", writer, Some(writer_kernels));
+    }
+}
+
+impl Kernels {
+    /// With the vector x.
+    fn new<'a>(input: &'a Input, x: &'a [u32], clock: &mut Clock<'a>) -> Kernels {
+        let setting = input.setting;
+        let [inner, columns] = [setting.inner, setting.columns].map(|columns| columns as usize);
+        let ticket = &input.ticket[..];
+        let b_records = kernels::parts(setting, ticket)[1];
+        let [a, b] = [&input.a, &input.b].map(|matrix| matrix.iter().map(|&entry| entry as i16).collect::<Vec<_>>());
+        let a_by_rows = kernels::by_rows(&a, inner);
+        let lift = setting.scale << (setting.width - 1);
+        let claims: Vec<u32> = input.sums.iter().map(|sum| lift.wrapping_add_signed(*sum)).collect();
+        let scale = setting.scale as i32;
+        let quotients: Vec<i32> = input.sums.iter().map(|sum| sum.div_euclid(scale)).collect();
+        let remainders: Vec<i32> = input.sums.iter().map(|sum| sum.rem_euclid(scale)).collect();
+
+        let mut u = vec![[kernels::four_of(0); 2]; inner / 2];
+        kernels::product(b_records, x, &mut u);
+        let known_u = u.clone();
+        let reading = move || kernels::reading(black_box(setting), black_box(ticket));
+        let product = move || kernels::product(black_box(b_records), black_box(x), black_box(&mut u));
+        let rows = move || {
+            let (a, claims, u) = (black_box(&a_by_rows), black_box(&claims), black_box(&known_u));
+            kernels::rows(a, claims, black_box(lift), black_box(x), u)
+        };
+        assert!(reading() && rows());
+        let mut room = vec![kernels::four_of(0); 4 * inner];
+        let mut sums = vec![0; input.sums.len()];
+        let sums = move || {
+            let (a, b) = (black_box(&a), black_box(&b));
+            kernels::sums(a, b, black_box(columns), &mut room, black_box(&mut sums))
+        };
+        let mut output = vec![0; ticket.len()];
+        let records = move || {
+            let parts = [&input.a, &input.b, &quotients, &remainders];
+            let [a, b, quotients, remainders] = parts.map(|numbers| &numbers[..]);
+            let parts = [(a, inner), (b, columns), (quotients, columns), (remainders, columns)];
+            kernels::records(black_box(parts), black_box(&mut output))
+        };
+        Kernels {
+            reading: clock.add(reading),
+            product: clock.add(product),
+            rows: clock.add(rows),
+            sums: clock.add(sums),
+            records: clock.add(records),
+        }
+    }
 }

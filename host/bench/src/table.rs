@@ -1,121 +1,128 @@
-//! The table of ratios, in Markdown, and what they are to be.
+//! The tables of ratios, in Markdown, and what they are to be.
 
 use std::fmt::{Display, Formatter, Result};
 
 /// The programs beside the library, and the most that the ratio of a whole call
 /// may be.
-const OTHERS: [(&str, f64); 3] = [("straightforward", 1.0 / 3.0), ("best", 1.1), ("FLINT", 1.0)];
+const OTHERS: [(&str, f64); 2] = [("straightforward", 1.0 / 3.0), ("FLINT", 1.0)];
+
+/// The most that the ratio of a part to its kernel may be.
+const OF_KERNEL: f64 = 1.1;
 
 #[derive(Default)]
 pub struct Table {
-    lines: Vec<Line>,
+    pub calls: Vec<Call>,
+    pub parts: Vec<Part>,
 }
 
-pub struct Line {
-    size: String,
-    vectors: Option<u32>,
-    name: String,
-    /// A whole call, not a part of one.
-    whole: bool,
-    /// The library's.
-    nanoseconds: f64,
-    /// The library's time over that of each other.
-    ratios: [Option<f64>; OTHERS.len()],
+/// A whole call.
+pub struct Call {
+    pub size: String,
+    pub vectors: Option<u32>,
+    pub name: &'static str,
+    /// Nanoseconds of the library and of the others, as far as there are any.
+    pub times: Vec<f64>,
 }
 
-impl Line {
-    /// A whole call, with the times of the library and of the others, as far as
-    /// there are any.
-    pub fn whole(size: &str, vectors: Option<u32>, name: &str, times: &[f64]) -> Line {
-        let mut ratios = [None; OTHERS.len()];
-        for (ratio, &time) in ratios.iter_mut().zip(&times[1..]) {
-            // Differences of times too short to tell can be of any sign.
-            *ratio = (times[0] > 0.0 && time > 0.0).then_some(times[0] / time);
-        }
-        Line {
-            size: size.to_string(),
-            vectors,
-            name: name.to_string(),
-            whole: true,
-            nanoseconds: times[0],
-            ratios,
-        }
-    }
-
-    /// A part of the whole call above it.
-    pub fn part(size: &str, vectors: Option<u32>, name: &str, times: &[f64]) -> Line {
-        Line {
-            name: format!("— {name}"),
-            whole: false,
-            ..Line::whole(size, vectors, name, times)
-        }
+impl Call {
+    /// The library's time over that of the other of this index.
+    fn ratio(&self, index: usize) -> Option<f64> {
+        Some(self.times[0] / self.times.get(index + 1)?)
     }
 }
 
-impl Table {
-    pub fn add(&mut self, line: Line) {
-        self.lines.push(line);
-    }
+/// A part of a call.
+pub struct Part {
+    pub size: String,
+    pub name: &'static str,
+    /// Nanoseconds of the library and, if there is one, of the kernel.
+    pub library: f64,
+    pub kernel: Option<f64>,
+}
 
-    /// The whole calls that have a ratio to the other of this index.
-    fn goals(&self, index: usize) -> impl Iterator<Item = (&Line, f64)> {
-        let whole = self.lines.iter().filter(|line| line.whole);
-        whole.filter_map(move |line| Some((line, line.ratios[index]?)))
+impl Part {
+    fn ratio(&self) -> Option<f64> {
+        Some(self.library / self.kernel?)
     }
 }
 
 impl Display for Table {
     fn fmt(&self, f: &mut Formatter) -> Result {
-        write!(f, "| Size | s | Call, and its parts | Library, µs |")?;
+        write!(f, "| Size | s | Call | Library, µs |")?;
         for (name, _) in OTHERS {
             write!(f, " Library / {name} |")?;
         }
         writeln!(f)?;
         writeln!(f, "|---|---|---|---:|{}", "---:|".repeat(OTHERS.len()))?;
-        for line in &self.lines {
-            let vectors = line.vectors.map_or(String::new(), |vectors| vectors.to_string());
-            write!(
-                f,
-                "| {} | {vectors} | {} | {:.3} |",
-                line.size,
-                line.name,
-                line.nanoseconds / 1000.0
-            )?;
-            for ratio in line.ratios {
-                write!(f, " {} |", ratio.map_or("-".to_string(), |ratio| format!("{ratio:.2}")))?;
+        for call in &self.calls {
+            let vectors = call.vectors.map_or(String::new(), |vectors| vectors.to_string());
+            let time = call.times[0] / 1000.0;
+            write!(f, "| {} | {vectors} | {} | {time:.3} |", call.size, call.name)?;
+            for index in 0..OTHERS.len() {
+                write!(f, " {} |", shown(call.ratio(index), 2))?;
             }
             writeln!(f)?;
         }
+        writeln!(f)?;
+        writeln!(f, "| Size | Part | Library, µs | Kernel, µs | Library / kernel |")?;
+        writeln!(f, "|---|---|---:|---:|---:|")?;
+        for part in &self.parts {
+            let time = part.library / 1000.0;
+            let kernel = shown(part.kernel.map(|kernel| kernel / 1000.0), 3);
+            let ratio = shown(part.ratio(), 2);
+            writeln!(f, "| {} | {} | {time:.3} | {kernel} | {ratio} |", part.size, part.name)?;
+        }
 
         writeln!(f)?;
-        writeln!(f, "Goals, for whole calls:")?;
+        writeln!(f, "Goals:")?;
         writeln!(f)?;
-        for (index, (name, most)) in OTHERS.iter().enumerate() {
-            let goals: Vec<(&Line, f64)> = self.goals(index).collect();
-            let missed: Vec<String> = goals
-                .iter()
-                .filter(|(_, ratio)| ratio > most)
-                .map(|(line, ratio)| format!("{line} ({ratio:.3})"))
-                .collect();
-            write!(f, "- Library / {name} at most {most:.2}: ")?;
-            match (goals.len(), missed.len()) {
-                (0, _) => writeln!(f, "not measured.")?,
-                (all, 0) => writeln!(f, "met by all {all}.")?,
-                (all, count) => {
-                    writeln!(f, "met by {} of {all}; missed by {}.", all - count, missed.join(", "))?;
-                }
-            }
+        for (index, (name, most)) in OTHERS.into_iter().enumerate() {
+            let ratios = self.calls.iter().map(|call| (call.to_string(), call.ratio(index)));
+            goal(f, "Calls", name, most, ratios)?;
         }
-        Ok(())
+        let ratios = self.parts.iter().map(|part| (part.to_string(), part.ratio()));
+        goal(f, "Parts", "kernel", OF_KERNEL, ratios)
     }
 }
 
-impl Display for Line {
+/// Says which of the ratios that there are meet a goal.
+fn goal(
+    f: &mut Formatter,
+    kind: &str,
+    other: &str,
+    most: f64,
+    ratios: impl Iterator<Item = (String, Option<f64>)>,
+) -> Result {
+    let ratios: Vec<(String, f64)> = ratios.filter_map(|(name, ratio)| Some((name, ratio?))).collect();
+    let missed: Vec<String> = ratios
+        .iter()
+        .filter(|(_, ratio)| *ratio > most)
+        .map(|(name, ratio)| format!("{name} ({ratio:.3})"))
+        .collect();
+    write!(f, "- {kind}, library / {other} at most {most:.2}: ")?;
+    match (ratios.len(), missed.len()) {
+        (0, _) => writeln!(f, "not measured."),
+        (all, 0) => writeln!(f, "met by all {all}."),
+        (all, count) => writeln!(f, "met by {} of {all}; missed by {}.", all - count, missed.join(", ")),
+    }
+}
+
+fn shown(number: Option<f64>, decimals: usize) -> String {
+    number.map_or("-".to_string(), |number| format!("{number:.decimals$}"))
+}
+
+impl Display for Call {
     fn fmt(&self, f: &mut Formatter) -> Result {
         write!(f, "{} {}", self.name, self.size)?;
         match self.vectors {
             Some(vectors) => write!(f, " s = {vectors}"),
             None => Ok(()),
         }
+    }
+}
+
+impl Display for Part {
+    fn fmt(&self, f: &mut Formatter) -> Result {
+        write!(f, "{} {}", self.name, self.size)
     }
 }
