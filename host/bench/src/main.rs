@@ -368,7 +368,7 @@ impl Parts {
         let kernel = |number| Some(clock.nanoseconds(number));
         let [one, most] = [0, 1].map(|index| clock.nanoseconds(plan.challenge_check[index][0]));
         let reading = clock.nanoseconds(self.reading);
-        // The check that is caught has all done but the rows after the first.
+        // The check that is caught has done all but the rows after the first.
         let count = f64::from(input.setting.rows);
         let rows = (one - clock.nanoseconds(self.caught)) / (count - 1.0) * count;
         let vector = (most - one) / f64::from(VECTORS[1] - VECTORS[0]);
@@ -385,16 +385,14 @@ impl Parts {
                 kernel,
             });
         };
+        // Those of the challenge check, the last two for one vector; the full check
+        // without reading; the writer.
         add("reading", reading, kernel(kernels.reading));
-        add("decoding A and the claims", one - vector - reading, None);
-        add("u, one vector", vector - rows, kernel(kernels.product));
-        add("rows, one vector", rows, kernel(kernels.rows));
-        add(
-            "sums: full check without reading",
-            full_check - reading,
-            kernel(kernels.sums),
-        );
-        add("sums and records: writer", writer, Some(writer_kernels));
+        add("decoding", one - vector - reading, None);
+        add("u", vector - rows, kernel(kernels.product));
+        add("rows", rows, kernel(kernels.rows));
+        add("sums", full_check - reading, kernel(kernels.sums));
+        add("sums and records", writer, Some(writer_kernels));
     }
 }
 
