@@ -3,6 +3,7 @@
 --   undivided p k       the computed test: none of 2, 3, .., k + 1 divides p
 --   prime-of-test       a number above 1 that passes the test, and is below (k + 2)², is prime
 --   prime-positive      a prime is above 0
+--   prime-odd           a prime above 2 is odd
 --   product-zero        a product that is 0 modulo a prime has a factor that is 0 modulo it
 use Prim.Native.Nat.{ℕ, zero, suc, _+_, _*_, _/_, _%_, _≤_, _<_}
 use native.Mathlib.Nat.{le-refl, one-mul, mod-lt, zero-mod, mul-mod-right, mul-comm, div-add-mod, mul-le-mul, pos-of-ne-zero, eq-zero-or-pos}
@@ -64,6 +65,13 @@ prime-of-test p k h l t = record { above-one = h; divisors = divisors }
 
 pub prime-positive : {p : ℕ} → Prime p → 0 < p
 prime-positive prime = omega (arith, prime .above-one)
+
+pub prime-odd : {p : ℕ} → Prime p → 2 < p → p % 2 ≡ 1
+prime-odd {p} prime above =
+    elim (ℕ-discrete (p % 2) 0) [
+      | yes even ↦ absurd (⊎-elim (λ e. omega arith) (λ e. omega arith) (prime .divisors 2 (p / 2) (omega arith)))
+      | no odd ↦ omega arith
+    ]
 
 -- a product that is 0 modulo p stays so with p % a for its factor a
 remainder-zero : (p a b : ℕ) → (a * b) % p ≡ 0 → (p % a * b) % p ≡ 0
