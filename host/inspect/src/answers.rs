@@ -8,12 +8,12 @@ use crate::words::{self, hex};
 /// The answer of the full check with the records that it names, then that of the
 /// challenge check, where it was made.
 pub fn text(setting: Setting, layout: &Layout, ticket: &[u8], full: Answer, challenge: Option<Answer>) -> String {
-    let mut text = answer_text("full check", full, words::full(full, setting));
+    let mut text = answer_text("full check", full, setting);
     for record in named_records(full, layout) {
         text += &record_text(layout, ticket, record, full.number == 5);
     }
     text + &match challenge {
-        Some(answer) => answer_text("challenge check", answer, words::challenge(answer, setting)),
+        Some(answer) => answer_text("challenge check", answer, setting),
         None => "challenge check: not made, since there is no list (the program takes an empty one)\n".to_string(),
     }
 }
@@ -29,8 +29,9 @@ pub fn named_records(answer: Answer, layout: &Layout) -> Vec<usize> {
     }
 }
 
-fn answer_text(check: &str, answer: Answer, meaning: String) -> String {
+fn answer_text(check: &str, answer: Answer, setting: Setting) -> String {
     let [number, place, row, products] = answer.numbers();
+    let meaning = words::meaning(check, answer, setting);
     format!("{check}: {number} {place} {row} {products}\n  {meaning}\n")
 }
 

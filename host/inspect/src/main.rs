@@ -9,6 +9,7 @@ mod files;
 mod inputs;
 mod layout;
 mod list;
+mod meanings;
 mod report;
 mod table;
 #[cfg(test)]

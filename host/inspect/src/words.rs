@@ -2,46 +2,29 @@
 
 use dikdumar::{residue, Answer, Setting};
 
-/// What an answer of the full check means.
-pub fn full(answer: Answer, setting: Setting) -> String {
+use crate::meanings;
+
+/// What an answer of a check means: the table's words, and what they leave open.
+pub fn meaning(check: &str, answer: Answer, setting: Setting) -> String {
+    match meanings::meaning(check, answer) {
+        Some(meaning) => meaning + &here(answer, setting),
+        None => "a number that docs/answers.txt does not have".to_string(),
+    }
+}
+
+/// What is allowed under this setting, or where the claim stands.
+fn here(answer: Answer, setting: Setting) -> String {
+    let half = 1_u64 << setting.width.saturating_sub(1).min(62);
     match answer.number {
-        0 => "accepted: every claim is true".to_string(),
+        7 => format!("; allowed: -{0} to {0}", setting.bound),
+        8 => format!("; allowed: -{half} to {}", half - 1),
+        9 => format!("; allowed: 0 to {}", setting.scale.saturating_sub(1)),
         16 => {
             let columns = setting.columns.max(1);
             let (row, column) = (answer.place / columns, answer.place % columns);
-            format!("the claim of row {row}, column {column} is untrue, so the ticket is false")
+            format!("; the claim is that of row {row}, column {column}")
         }
-        _ => refusal(answer, setting),
-    }
-}
-
-/// What an answer of the challenge check means.
-pub fn challenge(answer: Answer, setting: Setting) -> String {
-    let Answer { number, place, row, .. } = answer;
-    match number {
-        0 => "accepted: both sides of every row are equal, for every vector".to_string(),
-        10 => "refused: the list does not have s·n numbers".to_string(),
-        11 => format!("refused at number {place} of the list: it is p or more"),
-        12 => format!("caught in vector {place}, row {row}: the two sides differ, so the ticket is false"),
-        _ => refusal(answer, setting),
-    }
-}
-
-/// What a refusal means that both checks give.
-fn refusal(answer: Answer, setting: Setting) -> String {
-    let half = 1_u64 << setting.width.saturating_sub(1).min(62);
-    let at = |reason: String| format!("refused at record {}: its {reason}", answer.place);
-    match answer.number {
-        1 => "refused: ℓ, m, n or s is outside its limits".to_string(),
-        2 => "refused: α, T or v is outside its limits".to_string(),
-        3 => "refused: the setting does not fit".to_string(),
-        4 => "refused: the ticket does not have the length that the setting asks for".to_string(),
-        5 => at("kind, zero byte, row or column is not the one expected".to_string()),
-        6 => at("value is p or more".to_string()),
-        7 => at(format!("entry is not from -{0} to {0}", setting.bound)),
-        8 => at(format!("quotient is not from -{half} to {}", half - 1)),
-        9 => at(format!("remainder is not below {}", setting.scale)),
-        _ => "a number that this check does not give".to_string(),
+        _ => String::new(),
     }
 }
 

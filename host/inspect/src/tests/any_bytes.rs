@@ -12,6 +12,7 @@ use crate::words::{count, hex};
 fn holds(setting_file: &[u8], ticket: &[u8], list_file: &[u8]) {
     let text = shown(setting_file, ticket, list_file);
     assert!(text.lines().count() < 100 + ticket.len() + list_file.len());
+    assert!(!text.contains("a number that docs/answers.txt does not have"));
     let Some(setting) = inputs::setting(setting_file) else {
         assert!(text.ends_with(NO_SETTING));
         return;

@@ -2,9 +2,10 @@ use super::*;
 
 use std::fs;
 
-use dikdumar::residue;
+use dikdumar::{full_check, residue};
 
 use crate::layout;
+use crate::meanings::meaning;
 use crate::report::NO_SETTING;
 use crate::words::{count, hex};
 
@@ -91,7 +92,7 @@ fn claims_that_differ_are_marked_and_no_other() {
             Some([16, claim as u32, 0, 5 * (claim as u32 + 1)])
         );
         assert!(text.contains(&format!(
-            "the claim of row {}, column {} is untrue",
+            "; the claim is that of row {}, column {}\n",
             claim / 4,
             claim % 4
         )));
@@ -153,14 +154,15 @@ fn a_refused_record_is_shown() {
         set_value(&mut ticket, record, value);
         let text = shown_under(K, &ticket, &[1, 2]);
         assert_eq!(answer_shown(&text, "full check"), Some([number, record as u32, 0, 0]));
-        let reason = match number {
-            6 => "value is p or more",
-            7 => "entry is not from -8 to 8",
-            8 => "quotient is not from -16 to 15",
-            _ => "remainder is not below 10",
+        let allowed = match number {
+            6 => "",
+            7 => "; allowed: -8 to 8",
+            8 => "; allowed: -16 to 15",
+            _ => "; allowed: 0 to 9",
         };
+        let meaning = meaning("full check", full_check(Setting::from(K), &ticket)).expect("words");
         let bytes = hex(&ticket[8 * record..8 * record + 8]);
-        let expected = format!("  refused at record {record}: its {reason}\n  record {record}: {bytes}\n    {place}\n");
+        let expected = format!("  {meaning}{allowed}\n  record {record}: {bytes}\n    {place}\n");
         assert!(text.contains(&expected), "{text}");
         assert!(text.contains(&format!("  {cell}")), "{text}");
     }
