@@ -29,7 +29,8 @@ fn line(number: &str) -> Option<(&'static str, &'static str)> {
 }
 
 /// The words of the sentence `The CHECK's NUMBER: WORDS.`, which is there where the
-/// number means something else of this check.
+/// number means something else of this check. They follow the verdict, in place of
+/// the table's.
 fn exception(todo: &'static str, check: &str, number: &str) -> Option<&'static str> {
     let (_, words) = todo.split_once(&format!("The {check}'s {number}: "))?;
     words.split('.').next()
