@@ -1,10 +1,10 @@
 // What the records of a ticket are decoded to, for loops over many of them: lists of bare numbers, filled as far as the records and
-// the list go. A shift is added to each value modulo p, so that what a value in range stands for is not negative: one comparison,
-// where the value is a least residue. What comes of other values is fixed too, and means nothing.
+// the list go. A shift is added to each value modulo p, so that what a value in range stands for is not negative. What comes of other
+// values is fixed too, and means nothing.
 ghost use mathlib.Core.Path.{_≡_};
 ghost use Prim.Native.Nat.{_+_, _*_, _≤_, _%_, _^_};
 ghost use Rattle.residue.specs.Rules.{modulus};
-ghost use Rattle.residue.specs.Laws.Modulo.{sumOnce};
+ghost use Rattle.residue.specs.Laws.Modulo.{carriedSum};
 ghost use Rattle.ticket.specs.Laws.Decodes.{narrowed, ShiftedList, NarrowList, LiftedList};
 use crate::parts::RECORD;
 use crate::parts::fewer;
@@ -22,11 +22,10 @@ const NARROW: u32 = 32_768;
 pub fn shifted_entries(records: &[u8], shift: Residue, list: &mut [u32])
     ensures { λ r. ⌜ ShiftedList (now (records .entry)) (shift .0) (now (list .entry)) (now (list .exit)) ⌝ }
 {
-    let shift = shift.0 % Residue::modulus();
     let count = fewer(records.len() / RECORD, list.len());
     let mut k = 0;
     while k < count {
-        list[k] = shifted(value_at(records, k), shift).0;
+        list[k] = shifted(value_at(records, k), shift.0).0;
         k += 1;
     }
 }
@@ -53,27 +52,25 @@ pub fn lifted_claims(
 )
     ensures { λ r. ⌜ LiftedList (now (quotients .entry)) (now (remainders .entry)) (half .0) scale (now (list .entry)) (now (list .exit)) ⌝ }
 {
-    let shift = half.0 % Residue::modulus();
     let claims = fewer(quotients.len() / RECORD, remainders.len() / RECORD);
     let count = fewer(claims, list.len());
     let mut c = 0;
     while c < count {
-        let quotient = shifted(value_at(quotients, c), shift);
+        let quotient = shifted(value_at(quotients, c), half.0);
         list[c] = lifted(quotient, scale, value_at(remainders, c));
         c += 1;
     }
 }
 
-// A value with a shift added modulo p.
+// A value with a shift added modulo p, where the value is a least residue and the result in the lower half: then a value in the upper
+// half comes to p or more with the shift, and to p + 1 or more with 1 carried. There is no branch, and no division where p + 1 is a
+// power of two.
 fn shifted(value: Residue, shift: u32) -> Residue
-    requires { ⌜ shift ≤ modulus ⌝ }
-    ensures { λ r. ⌜ r .0 ≡ sumOnce modulus (value .0) shift ⌝ }
+    ensures { λ r. ⌜ r .0 ≡ carriedSum modulus (value .0) shift ⌝ }
 {
-    let low = Residue::modulus() - shift;
-    if value.0 < low {
-        return Residue(value.0 + shift);
-    }
-    Residue(value.0 - low)
+    let wrap = Residue::modulus() + 1;
+    let sum = std::num::wrapping_add_u32(value.0, shift);
+    Residue(std::num::wrapping_add_u32(sum, value.0 / (wrap / 2)) % wrap)
 }
 
 // The entry of 16 bits whose value, shifted by 2^15, this is.

@@ -6,18 +6,15 @@
 --   mod-mul            both factors may be reduced first
 --   mod-add-cancel     a summand on both sides is cancelled
 --   mod-once           a number from p to 2p is reduced by one subtraction
---   sumOnce p v s      v + s, less p where it is not below p: the sum modulo p by one comparison
---   sum-once           it is the sum modulo p, where v is below p and s at most p
---   sum-once-low, sum-once-high   it by the comparison
+--   carriedSum p v s   v + s, with 1 carried where v is in the upper half of the numbers up to p, modulo 2^32 and then modulo p + 1
+--   carried-low, carried-high   it for v in the lower half, and in the upper, where the sum passes p
+--   carried-sum        it is the sum modulo p, where that and s are in the lower half; p is odd and has at most 31 bits
 --   pow-pow            a power of a power
 use Prim.Native.Nat.{ℕ, zero, suc, _+_, _-_, _*_, _/_, _%_, _^_, _≤_, _<_}
-use native.Mathlib.Nat.{add-mul-mod-self-left, div-add-mod, mod-eq-of-lt, mod-eq-sub-mod, mul-comm, pow-zero, pow-suc, zero-mul, suc-mul}
+use native.Mathlib.Nat.{add-mul-mod-self-left, div-add-mod, div-eq-of-lt, div-eq-of-lt-le, mod-eq-of-lt, mod-eq-sub-mod, mul-comm, pow-zero, pow-suc, zero-mul, suc-mul}
 use native.Mathlib.Decide.{decLt}
 use native.Mathlib.Omega.{arith}
 use mathlib.Core.Path.{_≡_, sym, ap, _∙_}
-use mathlib.Core.Bool.{cond}
-use borrow.Author.Tests.{lt-ltb, le-ltb}
-use lib.Dec.{ltb}
 use lib.Pow.{pow-add}
 
 pub mod-of-multiples : (p a b x y : ℕ) → a + p * x ≡ b + p * y → a % p ≡ b % p
@@ -41,23 +38,39 @@ mod-add-cancel p c a b e =
 pub mod-once : (p x : ℕ) → p ≤ x → x < 2 * p → x % p ≡ x - p
 mod-once p x low high = mod-eq-sub-mod low ∙ mod-eq-of-lt (omega arith)
 
-unfoldable pub sumOnce : ℕ → ℕ → ℕ → ℕ
-sumOnce p v s = cond (ltb (v + s) p) (v + s) (v + s - p)
+unfoldable pub carriedSum : ℕ → ℕ → ℕ → ℕ
+carriedSum p v s = (v + s + v / ((p + 1) / 2)) % 2 ^ 32 % (p + 1)
 
-pub sum-once-low : (p v s : ℕ) → v + s < p → sumOnce p v s ≡ v + s
-unfolding sumOnce
-sum-once-low p v s low = rw (lt-ltb (v + s) p low)
+module _ (p : ℕ) (odd : p % 2 ≡ 1) (few : p < 2 ^ 31) (v s : ℕ) where
+  pub carried-low : v < (p + 1) / 2 → v + s ≤ p → carriedSum p v s ≡ v + s
+  unfolding carriedSum
+  carried-low low most =
+      let none : v / ((p + 1) / 2) ≡ 0 = div-eq-of-lt low in
+      let same : v + s + 0 ≡ v + s = omega arith in
+      let word : v + s < 2 ^ 32 = omega arith in
+      let below : v + s < p + 1 = omega arith in
+      rw (none, same, mod-eq-of-lt word, mod-eq-of-lt below)
 
-pub sum-once-high : (p v s : ℕ) → p ≤ v + s → sumOnce p v s ≡ v + s - p
-unfolding sumOnce
-sum-once-high p v s high = rw (le-ltb (v + s) p high)
+  pub carried-high : (p + 1) / 2 ≤ v → v < p → p ≤ v + s → s ≤ p → carriedSum p v s ≡ v + s - p
+  unfolding carriedSum
+  carried-high high below past most =
+      let one : v / ((p + 1) / 2) ≡ 1 = div-eq-of-lt-le ((p + 1) / 2) (omega arith) (omega arith) in
+      let word : v + s + 1 < 2 ^ 32 = omega arith in
+      rw (one, mod-eq-of-lt word) (mod-once (p + 1) (v + s + 1) (omega arith) (omega arith) ∙ omega arith)
 
-pub sum-once : (p v s : ℕ) → v < p → s ≤ p → sumOnce p v s ≡ (v + s) % p
-sum-once p v s below most =
-    elim (decLt (v + s) p) [
-      | yes low ↦ sum-once-low p v s low ∙ sym (mod-eq-of-lt low)
-      | no high ↦ sum-once-high p v s (omega arith) ∙ sym (mod-once p (v + s) (omega arith) (omega arith))
-    ]
+  pub carried-sum : v < p → s < (p + 1) / 2 → (v + s) % p < (p + 1) / 2 → carriedSum p v s ≡ (v + s) % p
+  carried-sum below most least =
+      elim (decLt v ((p + 1) / 2)) [
+        | yes low ↦
+            let sum : v + s < p = omega arith in
+            carried-low low (omega arith) ∙ sym (mod-eq-of-lt sum)
+        | no high ↦
+            let past : p ≤ v + s = elim (decLt (v + s) p) [
+              | yes l ↦ let same : (v + s) % p ≡ v + s = mod-eq-of-lt l in absurd (omega arith)
+              | no h ↦ omega arith
+            ] in
+            carried-high (omega arith) below past (omega arith) ∙ sym (mod-once p (v + s) past (omega arith))
+      ]
 
 pub pow-pow : (b m s : ℕ) → (b ^ m) ^ s ≡ b ^ (s * m)
 pow-pow b m zero = pow-zero (b ^ m) ∙ sym (ap (λ n. b ^ n) (zero-mul m) ∙ pow-zero b)

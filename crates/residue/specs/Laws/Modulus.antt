@@ -5,13 +5,15 @@
 --   modulus-positive   it is above 0
 --   modulus-above      it is above 2^30
 --   modulus-below      it is below 2^31
+--   modulus-odd        it is odd
 --   modulus-is         it is 2^31 - 1: for the proofs of this crate alone
 --   partner-moduli     the same argument serves the two other moduli that partners compute with
-use Prim.Native.Nat.{ℕ, _+_, _-_, _*_, _^_, _<_}
+use Prim.Native.Nat.{ℕ, _+_, _-_, _*_, _%_, _^_, _<_}
+use native.Mathlib.Omega.{arith}
 use mathlib.Core.Path.{_≡_, refl}
 use lib.Dec.{T, ltb, lit<}
 use Rattle.residue.specs.Rules.{modulus, Prime}
-use Rattle.residue.specs.Laws.Primes.{undivided, prime-of-test, prime-positive}
+use Rattle.residue.specs.Laws.Primes.{undivided, prime-of-test, prime-positive, prime-odd}
 
 -- the trial division tries 2 to last + 1
 abbrev last : ℕ
@@ -34,6 +36,9 @@ modulus-above = lit< tt
 pub modulus-below : modulus < 2 ^ 31
 unfolding modulus
 modulus-below = lit< tt
+
+pub modulus-odd : modulus % 2 ≡ 1
+modulus-odd = prime-odd modulus-prime (omega (arith, modulus-above))
 
 pub modulus-is : modulus ≡ 2 ^ 31 - 1
 unfolding modulus

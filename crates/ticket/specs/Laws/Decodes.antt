@@ -1,7 +1,7 @@
 -- What the records of a ticket that passes are decoded to, and what that stands for.
 --
 --   decodedCount b n, claimCount q r n   how many records of b, or of both q and r, are decoded to a list of n numbers
---   shiftedAt b s k       the value of record k of b with s added modulo p, by one comparison
+--   shiftedAt b s k       the value of record k of b with s added, by a carried sum
 --   narrowShift, narrowed x, narrowAt b k   2^15; the 16-bit number of a shifted value x; that of record k of b
 --   liftedAt q r h a c    the value of record c of q with h added modulo p, times a, and the value of record c of r, modulo 2^32
 --   ShiftedList b s l l', NarrowList b l l', LiftedList q r h a l l'   the list l' is l, filled with these as far as records and l go
@@ -15,7 +15,7 @@
 --   values-B              the values of the records of B
 use Prim.Native.Nat.{ℕ, suc, _+_, _-_, _*_, _/_, _%_, _^_, _≤_, _<_, min}
 use native.Mathlib.Decide.{decLe}
-use native.Mathlib.Nat.{mod-lt, mod-eq-of-lt, div-add-mod', div-lt-iff-lt-mul, mul-le-mul-right}
+use native.Mathlib.Nat.{mod-lt, mod-eq-of-lt, div-add-mod', div-lt-iff-lt-mul, mul-le-mul-left, mul-le-mul-right}
 use native.Mathlib.Omega.{arith}
 use mathlib.Core.Path.{_≡_, sym, ap, _∙_}
 use mathlib.Core.List.{List}
@@ -26,8 +26,8 @@ use mir.Syntax.{w16}
 use mir.Val.{SFits}
 use Rattle.residue.specs.Rules.{modulus, leastResidue, signedEntry}
 use Rattle.residue.specs.Laws.Integers.{positive, negative, difference-of-naturals, equal-of-parts, parts-sum, parts-difference, parts-product, parts-within}
-use Rattle.residue.specs.Laws.Modulo.{sumOnce, sum-once, sum-once-low, sum-once-high}
-use Rattle.residue.specs.Laws.Modulus.{modulus-above, modulus-below, modulus-positive}
+use Rattle.residue.specs.Laws.Modulo.{carriedSum, carried-sum, carried-low, carried-high}
+use Rattle.residue.specs.Laws.Modulus.{modulus-above, modulus-below, modulus-odd}
 use Rattle.residue.specs.Laws.Residues.{entry-low, entry-high}
 use Rattle.algebra.specs.Laws.Fills.{Filled}
 use Rattle.ticket.specs.declared.setting.Setting.{Setting}
@@ -47,7 +47,7 @@ abbrev pub claimCount : List ℕ → List ℕ → ℕ → ℕ
 claimCount quotients remainders size = min (min (length quotients / recordBytes) (length remainders / recordBytes)) size
 
 abbrev pub shiftedAt : List ℕ → ℕ → ℕ → ℕ
-shiftedAt bytes shift k = sumOnce modulus (valueAt bytes k) (shift % modulus)
+shiftedAt bytes shift k = carriedSum modulus (valueAt bytes k) shift
 
 abbrev pub liftedAt : List ℕ → List ℕ → ℕ → ℕ → ℕ → ℕ
 liftedAt quotients remainders half scale c = (shiftedAt quotients half c * scale + valueAt remainders c) % 2 ^ 32
@@ -59,7 +59,7 @@ abbrev pub narrowed : ℕ → ℤ
 narrowed shifted = pos (shifted % 65_536) -ℤ pos narrowShift
 
 abbrev pub narrowAt : List ℕ → ℕ → ℤ
-narrowAt bytes k = narrowed (sumOnce modulus (valueAt bytes k) narrowShift)
+narrowAt bytes k = narrowed (carriedSum modulus (valueAt bytes k) narrowShift)
 
 abbrev pub ShiftedList : List ℕ → ℕ → List ℕ → List ℕ → Type 0
 ShiftedList bytes shift before list = Filled 0 before (decodedCount bytes (length before)) (shiftedAt bytes shift) list
@@ -81,15 +81,17 @@ narrow-bits shifted =
 
 -- what that stands for
 
-module _ (p : ℕ) (above : 0 < p) (s v : ℕ) (most : s ≤ (p - 1) / 2) (least : v < p) (size : natAbs (signedEntry p v) ≤ s) where
-  pub shifted-entry : pos (sumOnce p v s) ≡ signedEntry p v +ℤ pos s
+module _ (p : ℕ) (odd : p % 2 ≡ 1) (few : p < 2 ^ 31) (s v : ℕ) (most : s ≤ (p - 1) / 2) (least : v < p)
+    (size : natAbs (signedEntry p v) ≤ s) where
+  pub shifted-entry : pos (carriedSum p v s) ≡ signedEntry p v +ℤ pos s
   shifted-entry =
+      let above : 0 < p = omega arith in
       elim (decLe v ((p - 1) / 2)) [
-        | yes low ↦ ap pos (sum-once-low p v s (omega arith)) ∙ ap (λ z. z +ℤ pos s) (sym (entry-low p above v low))
+        | yes low ↦ ap pos (carried-low p odd few v s (omega arith) (omega arith)) ∙ ap (λ z. z +ℤ pos s) (sym (entry-low p above v low))
         | no high ↦
             let is : signedEntry p v ≡ negsuc (p - suc v) = entry-high p above v (omega arith) least in
             let near : suc (p - suc v) ≤ s = rw is at size in
-            ap pos (sum-once-high p v s (omega arith))
+            ap pos (carried-high p odd few v s (omega arith) least (omega arith) (omega arith))
             ∙ equal-of-parts (pos (v + s - p)) (negsuc (p - suc v) +ℤ pos s) (omega (arith, parts-sum (negsuc (p - suc v)) (pos s)))
             ∙ ap (λ z. z +ℤ pos s) (sym is)
       ]
@@ -124,7 +126,7 @@ module _ {G : Setting} {t : List ℕ} (passed : Passed G t) where
   by-row Q columns wide h k l =
       rw (div-add-mod' k columns) at (h (k / columns) (k % columns) (div-lt-iff-lt-mul wide .1 l) (mod-lt k wide))
 
-  bound-small : (narrowShift ≤ (modulus - 1) / 2) × (G .bound ≤ (modulus - 1) / 2) × (G .bound < modulus)
+  bound-small : (narrowShift ≤ (modulus - 1) / 2) × (G .bound ≤ (modulus - 1) / 2)
   bound-small = omega (arith, modulus-above, passed .numbers .bound)
 
   module _ {a before : List ℕ} {b : List ℕ} (b-is : b ≡ partBytes (clamped G) t ofA) (room : G .rows * G .inner ≤ length before)
@@ -135,9 +137,8 @@ module _ {G : Setting} {t : List ℕ} (passed : Passed G t) where
         let d = decodable passed ofA b-is in
         let value = valueIn G t ofA i k in
         let inside : i * G .inner + k < decodedCount b (length before) = omega (arith, d .long, digits-lt l m) in
-        let reduced : G .bound % modulus ≡ G .bound = mod-eq-of-lt (bound-small .2) in
-        ap pos (filled .each (i * G .inner + k) inside ∙ rw (d .each i k l m, reduced))
-        ∙ shifted-entry modulus modulus-positive (G .bound) value (bound-small .1) (valid passed ofA i k l m .below) (size-entryA passed i k l m)
+        ap pos (filled .each (i * G .inner + k) inside ∙ rw (d .each i k l m))
+        ∙ shifted-entry modulus modulus-odd modulus-below (G .bound) value (bound-small .1) (valid passed ofA i k l m .below) (size-entryA passed i k l m)
 
     pub entries-shifted : ShiftedEntries G t a
     entries-shifted =
@@ -171,14 +172,15 @@ module _ {G : Setting} {t : List ℕ} (passed : Passed G t) where
               let left = valueIn G t ofRemainders i j in
               let inside : i * G .columns + j < claimCount q r (length before) = omega (arith, d .long, e .long, digits-lt l m) in
               let same : half ≡ halfRange G = half-is ∙ ap halfRange (clamped-same (passed .counts .sizes) (passed .numbers)) in
-              let small : halfRange G < modulus = omega (arith, half-small {G = G} (passed .numbers), modulus-above) in
-              let once = sum-once modulus value (halfRange G) (valid passed ofQuotients i j l m .below) (omega arith) in
               let scaled = mul-le-mul-right (G .scale) (shifted-below passed i j l m) in
+              let twice = mul-le-mul-left shifted (passed .numbers .scale .0) in
+              let carried = carried-sum modulus modulus-odd modulus-below value (halfRange G) (valid passed ofQuotients i j l m .below)
+              (omega (arith, half-small {G = G} (passed .numbers), modulus-above)) (omega (arith, scaled, twice, passed .fitted .claims)) in
               let few : shifted * G .scale + left < 2 ^ 32 =
               omega (arith, scaled, passed .fitted .claims, modulus-below, remainder-below passed i j l m) in
               ap pos (
               filled .each (i * G .columns + j) inside
-              ∙ rw (d .each i j l m, e .each i j l m, same, mod-eq-of-lt small, once, mod-eq-of-lt few)
+              ∙ rw (d .each i j l m, e .each i j l m, same, carried, mod-eq-of-lt few)
               )
               ∙ claim-lifted shifted left;
         }
@@ -199,10 +201,10 @@ module _ {G : Setting} {t : List ℕ} (passed : Passed G t) where
 
   -- an entry as a 16-bit number
   narrow-entry : (v : ℕ) → v < modulus → natAbs (signedEntry modulus v) ≤ G .bound
-      → narrowed (sumOnce modulus v narrowShift) ≡ signedEntry modulus v
+      → narrowed (carriedSum modulus v narrowShift) ≡ signedEntry modulus v
   narrow-entry v least size =
-      let shifted = shifted-entry modulus modulus-positive narrowShift v (bound-small .0) least (omega (arith, passed .numbers .bound)) in
-      let x = sumOnce modulus v narrowShift in
+      let shifted = shifted-entry modulus modulus-odd modulus-below narrowShift v (bound-small .0) least (omega (arith, passed .numbers .bound)) in
+      let x = carriedSum modulus v narrowShift in
       let z = signedEntry modulus v in
       let parts = parts-within z (G .bound) size in
       let few : x < 65_536 =
@@ -219,7 +221,7 @@ module _ {G : Setting} {t : List ℕ} (passed : Passed G t) where
     numbers w b-is room i j l m size =
         let d = decodable passed w b-is in
         filled .each (i * part G w .columns + j) (omega (arith, d .long, digits-lt l m))
-        ∙ ap (λ v. narrowed (sumOnce modulus v narrowShift)) (d .each i j l m)
+        ∙ ap (λ v. narrowed (carriedSum modulus v narrowShift)) (d .each i j l m)
         ∙ narrow-entry (valueIn G t w i j) (valid passed w i j l m .below) size
 
     pub entries-A : b ≡ partBytes (clamped G) t ofA → G .rows * G .inner ≤ length before

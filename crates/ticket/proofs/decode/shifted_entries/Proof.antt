@@ -1,36 +1,26 @@
 -- The loop keeps the values of the records before k in the list, each with the shift added.
 use Prim.Native.Nat.{_-_, _≤_}
-use native.Mathlib.Nat.{mod-lt}
 use native.Mathlib.Omega.{arith}
 use mathlib.Core.Path.{_≡_, _∙_}
 use borrow.Author.Needs.{needs}
 use Rattle.residue.specs.Rules.{modulus}
-use Rattle.residue.specs.Laws.Modulo.{sumOnce}
-use Rattle.residue.specs.Laws.Modulus.{modulus-positive}
+use Rattle.residue.specs.Laws.Modulo.{carriedSum}
 use Rattle.algebra.specs.Laws.Fills.{Filled, filled-none, filled-more}
 use Rattle.ticket.specs.Rules.{valueAt}
 use Rattle.ticket.proofs.decode.shifted_entries.Statement.{statement}
 use Rattle.ticket.proofs.decode.shifted_entries.Tie as tie
 
 abbrev Inv-loop : tie.InvT-loop
-Inv-loop records list₀ shift count k₀ list k = (k ≤ count) × Filled 0 list₀ k (λ i. sumOnce modulus (valueAt records i) shift) list
+Inv-loop records shift list₀ count k₀ list k = (k ≤ count) × Filled 0 list₀ k (λ i. carriedSum modulus (valueAt records i) (shift .0)) list
 
 abbrev μ-loop : tie.MeasureT-loop
-μ-loop records list₀ shift count k₀ list k = count - k
-
-rem-shift : tie.Need-rem-shift Inv-loop μ-loop
-rem-shift c = omega (arith, modulus-positive)
+μ-loop records shift list₀ count k₀ list k = count - k
 
 loop-holds : tie.Need-loop-holds Inv-loop μ-loop
 loop-holds c = (omega arith, filled-none)
 
 value-at-requires : tie.Need-value-at-requires Inv-loop μ-loop
 value-at-requires c κs = omega arith
-
-shifted-requires : tie.Need-shifted-requires Inv-loop μ-loop
-shifted-requires c κs =
-    let shift = c .before .before .before .before in
-    rw (shift .before .modulus .ensures) (omega (arith, mod-lt (shift .before .before .before .before .args .shift .0) modulus-positive))
 
 mul-list : tie.Need-mul-list Inv-loop μ-loop
 mul-list c = omega arith
@@ -47,10 +37,10 @@ returns : tie.Need-returns Inv-loop μ-loop
 returns c =
     let at = c .before in
     let all : at .loop .k ≡ at .before .fewer .result = omega arith in
-    rw (all, at .before .fewer .ensures, at .before .before .before .modulus .ensures) at (at .loop .inv .1)
+    rw (all, at .before .fewer .ensures) at (at .loop .inv .1)
 
 pub shifted-entries-spec : {M : Type 1} → statement M
 shifted-entries-spec =
     tie.close
-    (tie.spec Inv-loop μ-loop (λ c κs. search needs) rem-shift (λ c κs. search needs) loop-holds value-at-requires shifted-requires
+    (tie.spec Inv-loop μ-loop (λ c κs. search needs) loop-holds value-at-requires (λ c κs. search needs)
     mul-list slice-write-list (λ c. omega arith) (λ c. omega arith) loop-again (λ c. c .before .loop .inv .1 .long) returns)
