@@ -17,17 +17,11 @@ fits c = search needs
 cast-lifted : tie.Need-cast-lifted
 cast-lifted c = widened tt (fits c)
 
-cast-lifted-2 : tie.Need-cast-lifted-2
-cast-lifted-2 c = search needs
-
 add-lifted : tie.Need-add-lifted
 add-lifted c = lifted-fits (c .args .n) (fits c) _ (lit≤ tt) (lit≤ tt)
 
 cast-low : tie.Need-cast-low
 cast-low c = lifted-natural (c .args .n) (fits c) _ (lit≤ tt) (lit≤ tt)
-
-cast-result : tie.Need-cast-result
-cast-result c = search needs
 
 returns : tie.Need-returns
 returns c =
@@ -35,4 +29,4 @@ returns c =
     ∙ lifted-residue (c .args .n) (fits c) (2 ^ 32) (lit≤ tt) (lit≤ tt) (2 ^ 32) 1 (omega arith) refl
 
 pub bits-spec : {M : Type 1} → statement M
-bits-spec = tie.close (tie.spec cast-lifted cast-lifted-2 add-lifted cast-low cast-result returns)
+bits-spec = tie.close (tie.spec cast-lifted (λ c. search needs) add-lifted cast-low (λ c. search needs) returns)

@@ -33,41 +33,14 @@ fits-y c = record { sfits = c .product2 .given }
 loop-holds : tie.Need-loop-holds Inv-loop μ-loop
 loop-holds c = (omega arith, summed-none (omega arith))
 
-add-at : tie.Need-add-at Inv-loop μ-loop
-add-at c = omega arith
-
-mul-product : tie.Need-mul-product Inv-loop μ-loop
-mul-product c = omega arith
-
-shared-slice-copy-out-product : tie.Need-shared-slice-copy-out-product Inv-loop μ-loop
-shared-slice-copy-out-product c = omega arith
-
 cast-product : tie.Need-cast-product Inv-loop μ-loop
 cast-product c = widened tt (fits-x c)
-
-mul-product-2 : tie.Need-mul-product-2 Inv-loop μ-loop
-mul-product-2 c = omega arith
-
-shared-slice-copy-out-product-2 : tie.Need-shared-slice-copy-out-product-2 Inv-loop μ-loop
-shared-slice-copy-out-product-2 c = omega arith
 
 cast-product-2 : tie.Need-cast-product-2 Inv-loop μ-loop
 cast-product-2 c = widened tt (fits-y c)
 
 mul-product-3 : tie.Need-mul-product-3 Inv-loop μ-loop
 mul-product-3 c = product-fits (fits-x (c .before)) (fits-y c)
-
-bits-requires : tie.Need-bits-requires Inv-loop μ-loop
-bits-requires c κs = search needs
-
-wrapping-add-u32-requires : tie.Need-wrapping-add-u32-requires Inv-loop μ-loop
-wrapping-add-u32-requires c κs = search needs
-
-add-k : tie.Need-add-k Inv-loop μ-loop
-add-k c = omega arith
-
-loop-less : tie.Need-loop-less Inv-loop μ-loop
-loop-less c = omega arith
 
 loop-again : tie.Need-loop-again Inv-loop μ-loop
 loop-again c =
@@ -85,6 +58,6 @@ returns c =
 pub products-spec : {M : Type 1} → statement M
 products-spec =
     tie.close
-    (tie.spec Inv-loop μ-loop loop-holds add-at mul-product shared-slice-copy-out-product cast-product mul-product-2
-    shared-slice-copy-out-product-2 cast-product-2 mul-product-3 bits-requires wrapping-add-u32-requires add-k loop-less
-    loop-again returns)
+    (tie.spec Inv-loop μ-loop loop-holds (λ c. omega arith) (λ c. omega arith) (λ c. omega arith) cast-product (λ c. omega arith)
+    (λ c. omega arith) cast-product-2 mul-product-3 (λ c κs. search needs) (λ c κs. search needs) (λ c. omega arith)
+    (λ c. omega arith) loop-again returns)

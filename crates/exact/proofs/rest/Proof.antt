@@ -15,32 +15,8 @@ abbrev μ-loop : tie.MeasureT-loop
 loop-holds : tie.Need-loop-holds Inv-loop μ-loop
 loop-holds c = (omega arith, summed-none (omega arith))
 
-sub-loop : tie.Need-sub-loop Inv-loop μ-loop
-sub-loop c = omega arith
-
-add-products : tie.Need-add-products Inv-loop μ-loop
-add-products c = omega arith
-
-products-requires : tie.Need-products-requires Inv-loop μ-loop
-products-requires c κs = omega arith
-
-add-k : tie.Need-add-k Inv-loop μ-loop
-add-k c = omega arith
-
-loop-less : tie.Need-loop-less Inv-loop μ-loop
-loop-less c = omega arith
-
 loop-again : tie.Need-loop-again Inv-loop μ-loop
 loop-again c = (omega arith, summed-joined (c .before .before .loop .inv .1) (c .products .ensures) refl refl)
-
-add-last : tie.Need-add-last Inv-loop μ-loop
-add-last c = omega arith
-
-sub-last : tie.Need-sub-last Inv-loop μ-loop
-sub-last c = omega arith
-
-last-requires : tie.Need-last-requires Inv-loop μ-loop
-last-requires c κs = omega arith
 
 returns : tie.Need-returns Inv-loop μ-loop
 returns c = summed-joined (c .before .before .loop .inv .1) (c .last .ensures) refl (omega arith)
@@ -48,5 +24,5 @@ returns c = summed-joined (c .before .before .loop .inv .1) (c .last .ensures) r
 pub rest-spec : {M : Type 1} → statement M
 rest-spec =
     tie.close
-    (tie.spec Inv-loop μ-loop loop-holds sub-loop add-products products-requires add-k loop-less loop-again add-last
-    sub-last last-requires returns)
+    (tie.spec Inv-loop μ-loop loop-holds (λ c. omega arith) (λ c. omega arith) (λ c κs. omega arith) (λ c. omega arith)
+    (λ c. omega arith) loop-again (λ c. omega arith) (λ c. omega arith) (λ c κs. omega arith) returns)

@@ -22,41 +22,11 @@ abbrev μ-loop : tie.MeasureT-loop
 loop-holds : tie.Need-loop-holds Inv-loop μ-loop
 loop-holds c = (omega arith, omega arith, omega arith, filled-none)
 
-add-end : tie.Need-add-end Inv-loop μ-loop
-add-end c = omega arith
-
 same-length : tie.Need-same-length Inv-loop μ-loop
 same-length c = c .before .before .loop .inv .3 .long
 
 returns : tie.Need-returns Inv-loop μ-loop
 returns c = row-sums-ended (c .before .before .loop .inv .3) (omega arith) (inr (omega arith))
-
-mul-dot : tie.Need-mul-dot Inv-loop μ-loop
-mul-dot c = omega arith
-
-sub-dot : tie.Need-sub-dot Inv-loop μ-loop
-sub-dot c = omega arith
-
-part-dot-start : tie.Need-part-dot-start Inv-loop μ-loop
-part-dot-start c = omega arith
-
-part-dot-end : tie.Need-part-dot-end Inv-loop μ-loop
-part-dot-end c = omega arith
-
-dot-requires : tie.Need-dot-requires Inv-loop μ-loop
-dot-requires c κs = search needs
-
-mul-sums : tie.Need-mul-sums Inv-loop μ-loop
-mul-sums c = omega arith
-
-slice-write-sums : tie.Need-slice-write-sums Inv-loop μ-loop
-slice-write-sums c = omega arith
-
-add-j : tie.Need-add-j Inv-loop μ-loop
-add-j c = omega arith
-
-loop-less : tie.Need-loop-less Inv-loop μ-loop
-loop-less c = omega arith
 
 loop-again : tie.Need-loop-again Inv-loop μ-loop
 loop-again c =
@@ -79,5 +49,6 @@ returns-2 c = row-sums-ended (c .before .loop .inv .3) (omega arith) (inl (omega
 pub row-sums-spec : {M : Type 1} → statement M
 row-sums-spec =
     tie.close
-    (tie.spec Inv-loop μ-loop loop-holds add-end same-length returns mul-dot sub-dot part-dot-start part-dot-end dot-requires
-    mul-sums slice-write-sums add-j loop-less loop-again same-length-2 returns-2)
+    (tie.spec Inv-loop μ-loop loop-holds (λ c. omega arith) same-length returns (λ c. omega arith) (λ c. omega arith)
+    (λ c. omega arith) (λ c. omega arith) (λ c κs. search needs) (λ c. omega arith) (λ c. omega arith) (λ c. omega arith)
+    (λ c. omega arith) loop-again same-length-2 returns-2)

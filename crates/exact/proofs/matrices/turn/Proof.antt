@@ -29,15 +29,6 @@ returns-2 c = record { turned = λ room-matrix room-list. absurd (omega arith); 
 loop-holds : tie.Need-loop-holds Inv-loop μ-loop
 loop-holds c = (omega arith, rw zero-mul turned-none)
 
-turn-row-requires : tie.Need-turn-row-requires Inv-loop μ-loop
-turn-row-requires c κs = omega arith
-
-add-row : tie.Need-add-row Inv-loop μ-loop
-add-row c = omega arith
-
-loop-less : tie.Need-loop-less Inv-loop μ-loop
-loop-less c = omega arith
-
 loop-again : tie.Need-loop-again Inv-loop μ-loop
 loop-again c =
     let at = c .before .before .before .before in
@@ -58,5 +49,5 @@ returns-3 c =
 pub turn-spec : {M : Type 1} → statement M
 turn-spec =
     tie.close
-    (tie.spec Inv-loop μ-loop mul-count returns returns-2 loop-holds turn-row-requires add-row loop-less loop-again
-    same-length returns-3)
+    (tie.spec Inv-loop μ-loop mul-count returns returns-2 loop-holds (λ c κs. omega arith) (λ c. omega arith) (λ c. omega arith)
+    loop-again same-length returns-3)

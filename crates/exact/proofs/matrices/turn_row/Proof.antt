@@ -48,12 +48,6 @@ slice-set-from-list c = omega (arith, ends (c .before), c .before .before .loop 
 add-at : tie.Need-add-at Inv-loop μ-loop
 add-at c = omega (arith, ends (c .before))
 
-add-column : tie.Need-add-column Inv-loop μ-loop
-add-column c = omega arith
-
-loop-less : tie.Need-loop-less Inv-loop μ-loop
-loop-less c = omega arith
-
 loop-again : tie.Need-loop-again Inv-loop μ-loop
 loop-again c =
     let loop = c .before .before in (
@@ -74,5 +68,5 @@ returns c =
 pub turn-row-spec : {M : Type 1} → statement M
 turn-row-spec =
     tie.close
-    (tie.spec Inv-loop μ-loop mul-start loop-holds add-list mul-list shared-slice-copy-out-list mul-t14 slice-set-from-list
-    add-at add-column loop-less loop-again same-length returns)
+    (tie.spec Inv-loop μ-loop mul-start loop-holds add-list mul-list shared-slice-copy-out-list mul-t14 slice-set-from-list add-at
+    (λ c. omega arith) (λ c. omega arith) loop-again same-length returns)

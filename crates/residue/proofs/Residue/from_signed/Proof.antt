@@ -17,20 +17,11 @@ fits c = search needs
 cast-lifted : tie.Need-cast-lifted
 cast-lifted c = widened tt (fits c)
 
-cast-lifted-2 : tie.Need-cast-lifted-2
-cast-lifted-2 c = search needs
-
-mul-lifted : tie.Need-mul-lifted
-mul-lifted c = search needs
-
 add-lifted : tie.Need-add-lifted
 add-lifted c = lifted-fits (c .before .before .args .entry .0) (fits c) _ (lit≤ tt) (lit≤ tt)
 
 cast-reduce : tie.Need-cast-reduce
 cast-reduce c = lifted-natural (c .before .before .args .entry .0) (fits c) _ (lit≤ tt) (lit≤ tt)
-
-reduce-requires : tie.Need-reduce-requires
-reduce-requires c κs = search needs
 
 returns : tie.Need-returns
 unfolding modulus
@@ -41,4 +32,4 @@ returns c =
 pub from-signed-spec : {M : Type 1} → statement M
 from-signed-spec =
     tie.close
-    (tie.spec cast-lifted cast-lifted-2 mul-lifted add-lifted cast-reduce reduce-requires returns)
+    (tie.spec cast-lifted (λ c. search needs) (λ c. search needs) add-lifted cast-reduce (λ c κs. search needs) returns)

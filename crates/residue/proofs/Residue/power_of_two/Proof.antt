@@ -10,16 +10,10 @@ use Rattle.residue.proofs.Residue.power_of_two.Tie as tie
 returns : tie.Need-returns
 returns c = sym (power-beyond (c .before .args .k) (c .if1 .taken))
 
-mul-power : tie.Need-mul-power
-mul-power c = search needs
-
-array-read-power : tie.Need-array-read-power
-array-read-power c = search needs
-
 -- the computation over the table: its 31 entries are those of the rule
 returns-2 : tie.Need-returns-2
 unfolding powerOfTwo
 returns-2 c = table-rule powerOfTwo 31 (c .before .args .k) (omega arith)
 
 pub power-of-two-spec : {M : Type 1} → statement M
-power-of-two-spec = tie.close (tie.spec returns mul-power array-read-power returns-2)
+power-of-two-spec = tie.close (tie.spec returns (λ c. search needs) (λ c. search needs) returns-2)

@@ -7,24 +7,6 @@ use borrow.Author.Needs.{needs}
 use Rattle.residue.proofs.Residue.subtract.Statement.{statement}
 use Rattle.residue.proofs.Residue.subtract.Tie as tie
 
-cast-lifted : tie.Need-cast-lifted
-cast-lifted c = search needs
-
-cast-lifted-2 : tie.Need-cast-lifted-2
-cast-lifted-2 c = search needs
-
-add-lifted : tie.Need-add-lifted
-add-lifted c = search needs
-
-cast-reduce : tie.Need-cast-reduce
-cast-reduce c = search needs
-
-sub-reduce : tie.Need-sub-reduce
-sub-reduce c = search needs
-
-reduce-requires : tie.Need-reduce-requires
-reduce-requires c κs = search needs
-
 returns : tie.Need-returns
 unfolding modulus
 returns c =
@@ -34,4 +16,5 @@ returns c =
 pub subtract-spec : {M : Type 1} → statement M
 subtract-spec =
     tie.close
-    (tie.spec cast-lifted cast-lifted-2 add-lifted cast-reduce sub-reduce reduce-requires returns)
+    (tie.spec (λ c. search needs) (λ c. search needs) (λ c. search needs) (λ c. search needs) (λ c. search needs)
+    (λ c κs. search needs) returns)

@@ -22,15 +22,6 @@ signed x = toZ-pos w32 {n = x % modulus} (omega arith)
 lowered : (x : ℕ) → toZ w32 (x % modulus) -ℤ pos modulus ≡ negsuc (modulus - suc (x % modulus))
 lowered x = ap (λ y. y -ℤ pos modulus) (signed x) ∙ less-modulus modulus modulus-positive (x % modulus) (mod-lt x modulus-positive)
 
-cast-t6 : tie.Need-cast-t6
-cast-t6 c = search needs
-
-cast-negative : tie.Need-cast-negative
-cast-negative c = search needs
-
-cast-negative-2 : tie.Need-cast-negative-2
-cast-negative-2 c = search needs
-
 sub-negative : tie.Need-sub-negative
 unfolding modulus
 sub-negative c = subst⁻¹ (SFits w32) (lowered (c .before .before .args .self .0)) (record { sfits = omega arith })
@@ -49,5 +40,4 @@ returns-2 c =
     ∙ sym (entry-high modulus modulus-positive (x % modulus) (c .if1 .left) (mod-lt x modulus-positive))
 
 pub to-signed-spec : {M : Type 1} → statement M
-to-signed-spec =
-    tie.close (tie.spec cast-t6 cast-negative cast-negative-2 sub-negative returns returns-2)
+to-signed-spec = tie.close (tie.spec (λ c. search needs) (λ c. search needs) (λ c. search needs) sub-negative returns returns-2)
