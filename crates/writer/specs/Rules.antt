@@ -4,27 +4,28 @@
 --   joined n f            f 0, then f 1, .., then f (n - 1): n lists, one after the other
 --   operandNumber G x k   14 where number k of the operands x is beyond the bound, else 0
 --   operandsReading G A B   the answer of the tests 13 and 14; its number is 0 where they pass
---   products G            how many products all the sums take
 --   written G             the answer where the ticket is written
 --   writing G A B s       the answer of the writer, for an output of s bytes
 --   entryOf n X i j       the number in row i, column j of a matrix X of n columns
---   sumOf G A B i j       the exact sum S of row i of A times column j of B
+--   sumFor G A B i j      what the claim there is made for: the exact sum S of row i of A times column j of B
 --   quotientOf, remainderOf G A B i j   S over the scale, rounded down, and what is left
+--   integersOf G A B      the integers that the parts of the ticket stand for, in the order of the parts
+--   integerIn G A B w i j   that in row i, column j of part w
 --   recordOf κ i j w      the bytes of a record: kind κ, a zero byte, row i, column j, and the value w, little-endian
---   recordsOf P f         the records of a part, row by row, of which row i, column j stands for the integer f i j
---   ticketOf G A B        the ticket: A, B, the quotients and the remainders
+--   ticketRecord G A B k  record k of the ticket
+--   ticketOf G A B        the ticket
 --   outputAfter G A B o   what the output holds afterwards
-use Prim.Native.Nat.{ℕ, zero, suc, _+_, _*_, _/_, _%_}
+use Prim.Native.Nat.{ℕ, zero, suc, _+_, _-_, _*_, _/_, _%_}
 use mathlib.Core.Bool.{cond}
 use mathlib.Core.List.{List, [], _∷_, _++_}
 use lib.Dec.{leb, eqb}
 use lib.IntN.{ℤ, pos, natAbs, _-ℤ_, _*ℤ_}
 use lib.ListN.{length, getD, drop}
 use Rattle.residue.specs.Rules.{modulus, leastResidue}
-use Rattle.algebra.specs.Rules.{sumℤ, floorDivision}
+use Rattle.algebra.specs.Rules.{floorDivision}
 use Rattle.ticket.specs.declared.setting.Setting.{Setting}
 use Rattle.ticket.specs.declared.Answer.{Answer}
-use Rattle.ticket.specs.Rules.{unless, refusal, settingNumber, ticketLength, Part, partA, partB, quotients, remainders, firstRefusal, after}
+use Rattle.ticket.specs.Rules.{unless, answer, refusal, after, firstRefusal, settingNumber, sumProducts, parts, part, partSize, ofA, ofB, start, records, holder, ticketLength, exactSum}
 
 unfoldable pub joined : ℕ → (ℕ → List ℕ) → List ℕ
 joined zero f = []
@@ -38,15 +39,12 @@ operandNumber G x k = unless (leb (natAbs (getD x k (pos 0))) (G .bound)) 14 0
 -- the operands are counted in A, then on in B
 unfoldable pub operandsReading : Setting → List ℤ → List ℤ → Answer
 operandsReading G A B =
-    unless (eqb (length A) (G .rows * G .inner)) (refusal 13 0)
-    (unless (eqb (length B) (G .inner * G .columns)) (refusal 13 1)
+    unless (eqb (length A) (partSize (part G ofA))) (refusal 13 0)
+    (unless (eqb (length B) (partSize (part G ofB))) (refusal 13 1)
     (firstRefusal 0 (length (A ++ B)) (operandNumber G (A ++ B))))
 
-abbrev pub products : Setting → ℕ
-products G = G .rows * G .inner * G .columns
-
 abbrev pub written : Setting → Answer
-written G = record { number = 0; place = ticketLength G; row = 0; products = products G }
+written G = answer 0 (ticketLength G) 0 (sumProducts G)
 
 unfoldable pub writing : Setting → List ℤ → List ℤ → ℕ → Answer
 writing G A B size =
@@ -58,32 +56,34 @@ writing G A B size =
 abbrev pub entryOf : ℕ → List ℤ → ℕ → ℕ → ℤ
 entryOf columns X i j = getD X (i * columns + j) (pos 0)
 
-unfoldable pub sumOf : Setting → List ℤ → List ℤ → ℕ → ℕ → ℤ
-sumOf G A B i j = sumℤ (G .inner) (λ k. entryOf (G .inner) A i k *ℤ entryOf (G .columns) B k j)
+abbrev pub sumFor : Setting → List ℤ → List ℤ → ℕ → ℕ → ℤ
+sumFor G A B = exactSum G (entryOf (G .inner) A) (entryOf (G .columns) B)
 
 unfoldable pub quotientOf : Setting → List ℤ → List ℤ → ℕ → ℕ → ℤ
-quotientOf G A B i j = floorDivision (sumOf G A B i j) (G .scale)
+quotientOf G A B i j = floorDivision (sumFor G A B i j) (G .scale)
 
 unfoldable pub remainderOf : Setting → List ℤ → List ℤ → ℕ → ℕ → ℤ
-remainderOf G A B i j = sumOf G A B i j -ℤ pos (G .scale) *ℤ quotientOf G A B i j
+remainderOf G A B i j = sumFor G A B i j -ℤ pos (G .scale) *ℤ quotientOf G A B i j
+
+unfoldable pub integersOf : Setting → List ℤ → List ℤ → List (ℕ → ℕ → ℤ)
+integersOf G A B = entryOf (G .inner) A ∷ entryOf (G .columns) B ∷ quotientOf G A B ∷ remainderOf G A B ∷ []
+
+unfoldable pub integerIn : Setting → List ℤ → List ℤ → ℕ → ℕ → ℕ → ℤ
+integerIn G A B w = getD (integersOf G A B) w (λ i j. pos 0)
 
 unfoldable pub recordOf : ℕ → ℕ → ℕ → ℕ → List ℕ
 recordOf kind row column value =
     kind ∷ 0 ∷ row ∷ column ∷ value % 256 ∷ value / 256 % 256 ∷ value / 65_536 % 256 ∷ value / 16_777_216 % 256 ∷ []
 
-unfoldable pub recordsOf : Part → (ℕ → ℕ → ℤ) → List ℕ
-recordsOf P f =
-    joined (P .rows * P .columns) (λ c.
-    let i = c / P .columns in
-    let j = c % P .columns in
-    recordOf (P .kind) i j (leastResidue modulus (f i j)))
+unfoldable pub ticketRecord : Setting → List ℤ → List ℤ → ℕ → List ℕ
+ticketRecord G A B k =
+    let w = holder (parts G) k in
+    let i = (k - start G w) / part G w .columns in
+    let j = (k - start G w) % part G w .columns in
+    recordOf (part G w .kind) i j (leastResidue modulus (integerIn G A B w i j))
 
 unfoldable pub ticketOf : Setting → List ℤ → List ℤ → List ℕ
-ticketOf G A B =
-    recordsOf (partA G) (entryOf (G .inner) A)
-    ++ recordsOf (partB G) (entryOf (G .columns) B)
-    ++ recordsOf (quotients G) (quotientOf G A B)
-    ++ recordsOf (remainders G) (remainderOf G A B)
+ticketOf G A B = joined (records G) (ticketRecord G A B)
 
 unfoldable pub outputAfter : Setting → List ℤ → List ℤ → List ℕ → List ℕ
 outputAfter G A B before =

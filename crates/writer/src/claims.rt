@@ -1,165 +1,137 @@
 // The claims: quotient and remainder of each exact sum, and their records.
 ghost use mathlib.Core.Path.{_≡_};
-ghost use Prim.Native.Nat.{_+_, _-_, _*_, _≤_};
+ghost use Prim.Native.Nat.{_*_, _≤_};
 ghost use lib.ListN.{length};
-ghost use Rattle.residue.specs.Rules.{powerOfTwo};
-ghost use Rattle.ticket.specs.Rules.{ticketLength};
-ghost use Rattle.ticket.specs.Laws.Limits.{Fitted, Numbers};
-ghost use Rattle.writer.specs.Laws.Sums.{quotientFor, remainderFor, WriteReady};
-ghost use Rattle.writer.specs.Laws.ClaimRecords.{claimPut, ClaimReady, ClaimsReady, claimsTo, lineClaims, RowReady};
-ghost use Rattle.writer.specs.Laws.Writes.{claimsOf};
-use crate::operands::ENTRIES;
-use crate::operands::columns;
-use crate::operands::rows;
+ghost use Rattle.ticket.specs.Rules.{ticketLength, start, ofQuotients, ofRemainders};
+ghost use Rattle.writer.specs.Rules.{ticketRecord};
+ghost use Rattle.writer.specs.Laws.Answers.{Writable};
+ghost use Rattle.writer.specs.Laws.Claims.{Lifting, Claimed};
+ghost use Rattle.writer.specs.Laws.Rows.{claimRecords, RowReady, RowWrote};
+ghost use Rattle.writer.specs.Laws.Writes.{Wrote};
+use crate::operands::narrow;
+use crate::operands::narrow_columns;
 use crate::records::COLUMN;
-use crate::records::put;
+use crate::records::write_record;
 use residue::Residue;
-use ticket::RECORD;
+use ticket::PartNumber;
 use ticket::Setting;
 
-// Operands of at most so many entries are written with small arrays, which are cleared sooner.
-const FEW: usize = 64;
+// The most entries of B. Of at most so few the columns are held in a small array, which is cleared sooner.
+const ENTRIES: usize = (Setting::MOST_INNER * Setting::MOST_COLUMNS) as usize;
 
-// A claim's two values: the least residue of the quotient, and the remainder.
+const FEW_ENTRIES: usize = 64;
+
+// The most entries of a row of A.
+const ROW: usize = Setting::MOST_INNER as usize;
+
+// A claim's two values.
 struct Claim {
-    quotient: u32,
-    remainder: u32,
+    quotient: Residue,
+    remainder: Residue,
 }
 
 // The records of all claims.
 pub(crate) fn write_claims(setting: Setting, a: &[i32], b: &[i32], output: &mut [u8])
-    requires { ⌜ WriteReady setting (now a) (now b) × (ticketLength setting ≤ length (now output)) ⌝ }
-    ensures { λ r. ⌜ now (output .exit) ≡ claimsOf setting (now (a .entry)) (now (b .entry)) (now (output .entry)) ⌝ }
+    requires { ⌜ Writable setting (now a) (now b) × (ticketLength setting ≤ length (now output)) ⌝ }
+    ensures { λ r. ⌜ Wrote (ticketRecord setting (now (a .entry)) (now (b .entry))) (claimRecords setting (setting .rows * setting .columns)) (now (output .entry)) (now (output .exit)) ⌝ }
 {
-    if (a.len() <= FEW) & (b.len() <= FEW) {
-        let mut x = [0; FEW];
-        let mut y = [0; FEW];
-        write_with(setting, a, b, &mut x, &mut y, output);
+    if b.len() <= FEW_ENTRIES {
+        let mut columns = [0; FEW_ENTRIES];
+        write_rows(setting, a, b, &mut columns, output);
         return;
     }
-    let mut x = [0; ENTRIES];
-    let mut y = [0; ENTRIES];
-    write_with(setting, a, b, &mut x, &mut y, output);
+    let mut columns = [0; ENTRIES];
+    write_rows(setting, a, b, &mut columns, output);
 }
 
-// The same, with lists that have room for the rows of A and the columns of B.
-fn write_with(
-    setting: Setting,
-    a: &[i32],
-    b: &[i32],
-    x: &mut [i16],
-    y: &mut [i16],
-    output: &mut [u8],
-)
-    requires { ⌜ WriteReady setting (now a) (now b) × (ticketLength setting ≤ length (now output)) × (length (now a) ≤ length (now x)) × (length (now b) ≤ length (now y)) ⌝ }
-    ensures { λ r. ⌜ now (output .exit) ≡ claimsOf setting (now (a .entry)) (now (b .entry)) (now (output .entry)) ⌝ }
+// The same, row after row, with a list that has room for the columns of B.
+fn write_rows(setting: Setting, a: &[i32], b: &[i32], columns: &mut [i16], output: &mut [u8])
+    requires { ⌜ Writable setting (now a) (now b) × (ticketLength setting ≤ length (now output)) × (length (now b) ≤ length (now columns)) ⌝ }
+    ensures { λ r. ⌜ Wrote (ticketRecord setting (now (a .entry)) (now (b .entry))) (claimRecords setting (setting .rows * setting .columns)) (now (output .entry)) (now (output .exit)) ⌝ }
 {
-    rows(a, x);
-    columns(b, setting.inner as usize, setting.columns as usize, y);
-    write_rows(setting, x, y, output);
-}
-
-// The records of the claims, row after row, from the rows of A and the columns of B.
-fn write_rows(setting: Setting, x: &[i16], y: &[i16], output: &mut [u8])
-    requires { ⌜ ClaimsReady setting (now x) (now y) (now output) ⌝ }
-    ensures { λ r. ⌜ now (output .exit) ≡ claimsTo setting (now (x .entry)) (now (y .entry)) (setting .rows * setting .columns) (now (output .entry)) ⌝ }
-{
-    let height = setting.rows as usize;
+    let half = setting.half();
+    let lift = setting.lift() as u32;
+    let height = setting.rows as u8;
     let inner = setting.inner as usize;
     let width = setting.columns as usize;
-    let half = Residue::power_of_two(setting.width - 1).0;
-    let quotients = height * inner + inner * width;
-    let remainders = quotients + height * width;
+    narrow_columns(b, inner, width, columns);
+    let mut line = [0; ROW];
+    let mut quotients = setting.start(PartNumber::QUOTIENTS) as usize;
+    let mut remainders = setting.start(PartNumber::REMAINDERS) as usize;
+    let mut from = 0;
     let mut row = 0;
     while row < height {
-        let from = row * inner;
-        let done = row * width;
+        let end = from + inner;
+        narrow(&a[from..end], 1, 0, &mut line[..inner]);
         write_row(
             setting,
             half,
-            row as u8,
-            &x[from..from + inner],
-            y,
-            quotients + done,
-            remainders + done,
+            lift,
+            row,
+            &line[..inner],
+            columns,
+            quotients,
+            remainders,
             output,
         );
+        quotients += width;
+        remainders += width;
+        from = end;
         row += 1;
     }
 }
 
-// The records of the claims of a row: the quotients from one record on, the remainders from another.
+// The records of the claims of a row: the quotients from one record on, the remainders from another. The line is the row of A, and
+// each sum is divided right after it is made: the compiler's code then makes the products of the next sum meanwhile.
 fn write_row(
     setting: Setting,
-    half: u32,
+    half: Residue,
+    lift: u32,
     row: u8,
-    x: &[i16],
-    y: &[i16],
+    line: &[i16],
+    columns: &[i16],
     quotients: usize,
     remainders: usize,
     output: &mut [u8],
 )
-    requires { ⌜ RowReady setting half (now y) quotients remainders (now output) ⌝ }
-    ensures { λ r. ⌜ now (output .exit) ≡ lineClaims setting (now (x .entry)) (now (y .entry)) row quotients remainders (setting .columns) (now (output .entry)) ⌝ }
+    requires { ⌜ RowReady setting (half .0) lift (now line) (now columns) quotients remainders (now output) ⌝ }
+    ensures { λ r. ⌜ RowWrote setting row (now (line .entry)) (now (columns .entry)) quotients remainders (now (output .entry)) (now (output .exit)) ⌝ }
 {
-    let inner = setting.inner as usize;
     let width = setting.columns as usize;
-    let mut header = ticket::word(3, 0, row, 0);
+    let mut quotient = ticket::word(3, 0, row, 0);
+    let mut remainder = ticket::word(4, 0, row, 0);
+    let mut from = 0;
     let mut column = 0;
     while column < width {
-        let from = column * inner;
-        let sum = exact::dot(x, &y[from..from + inner]);
-        write_claim(
-            setting,
-            half,
-            sum,
-            header,
-            quotients + column,
-            remainders + column,
-            output,
-        );
-        header += COLUMN;
+        let end = from + line.len();
+        let sum = exact::dot(line, &columns[from..end]);
+        let claim = divide(setting, half, lift, sum);
+        write_record(output, quotients + column, quotient, claim.quotient);
+        write_record(output, remainders + column, remainder, claim.remainder);
+        quotient += COLUMN;
+        remainder += COLUMN;
+        from = end;
         column += 1;
     }
 }
 
-// The two records of the claim for one sum. The kind of the remainders is one more than that of the quotients.
-fn write_claim(
-    setting: Setting,
-    half: u32,
-    sum: u32,
-    header: u32,
-    quotient: usize,
-    remainder: usize,
-    output: &mut [u8],
-)
-    requires { ⌜ ClaimReady setting half header quotient remainder (now output) ⌝ }
-    ensures { λ r. ⌜ now (output .exit) ≡ claimPut setting sum header quotient remainder (now (output .entry)) ⌝ }
-{
-    let claim = divide(setting, half, sum);
-    let q = RECORD * quotient;
-    put(&mut output[q..q + RECORD], header, claim.quotient);
-    let r = RECORD * remainder;
-    put(&mut output[r..r + RECORD], header + 1, claim.remainder);
-}
-
 // The claim for one sum S, which is known modulo 2^32. S is lifted by half times the scale, so that it is not negative: the quotient
 // of the lifted sum is half more than that of S, and the remainder is the same.
-fn divide(setting: Setting, half: u32, sum: u32) -> Claim
-    requires { ⌜ Numbers setting × Fitted setting × (half ≡ powerOfTwo (setting .width - 1)) ⌝ }
-    ensures { λ r. ⌜ (r .quotient ≡ quotientFor setting sum) × (r .remainder ≡ remainderFor setting sum) ⌝ }
+fn divide(setting: Setting, half: Residue, lift: u32, sum: u32) -> Claim
+    requires { ⌜ Lifting setting (half .0) lift ⌝ }
+    ensures { λ r. ⌜ Claimed setting sum (r .quotient .0) (r .remainder .0) ⌝ }
 {
-    let lifted = std::num::wrapping_add_u32(sum, half * setting.scale);
+    let lifted = std::num::wrapping_add_u32(sum, lift);
     let shifted = lifted / setting.scale;
-    let remainder = lifted % setting.scale;
-    if shifted < half {
+    let remainder = Residue(lifted % setting.scale);
+    if shifted < half.0 {
         return Claim {
-            quotient: shifted + (Residue::MODULUS - half),
+            quotient: Residue(shifted + (Residue::modulus() - half.0)),
             remainder,
         };
     }
     Claim {
-        quotient: shifted - half,
+        quotient: Residue(shifted - half.0),
         remainder,
     }
 }

@@ -1,9 +1,13 @@
 // The ticket writer: the one ticket whose claims are true, for two operands.
 ghost use mathlib.Core.Path.{_≡_};
-ghost use lib.ListN.{length};
-ghost use Rattle.writer.specs.Rules.{outputAfter, writing};
+ghost use mathlib.Core.List.{_++_};
+ghost use Prim.Native.Nat.{_≤_};
+ghost use lib.ListN.{drop, length};
+ghost use Rattle.ticket.specs.Rules.{ticketLength};
+ghost use Rattle.writer.specs.Rules.{outputAfter, ticketOf, writing};
+ghost use Rattle.writer.specs.Laws.Answers.{Writable};
 use ticket::Answer;
-use ticket::RECORD;
+use ticket::PartNumber;
 use ticket::Setting;
 
 mod claims;
@@ -28,10 +32,8 @@ pub fn write(setting: Setting, a: &[i32], b: &[i32], output: &mut [u8]) -> Answe
     if read.number != 0 {
         return read;
     }
-    let claims = setting.rows * setting.columns;
-    let records = setting.rows * setting.inner + setting.inner * setting.columns + 2 * claims;
-    let length = (RECORD as u32) * records;
-    if output.len() < length as usize {
+    let length = setting.length();
+    if output.len() < length {
         return Answer {
             number: 15,
             place: 0,
@@ -39,11 +41,26 @@ pub fn write(setting: Setting, a: &[i32], b: &[i32], output: &mut [u8]) -> Answe
             products: 0,
         };
     }
-    records::write_ticket(setting, a, b, output);
+    write_ticket(setting, a, b, output);
     Answer {
         number: 0,
-        place: length,
+        place: length as u32,
         row: 0,
-        products: setting.rows * setting.inner * setting.columns,
+        products: setting.products(),
     }
+}
+
+// The ticket, at the beginning of the output.
+fn write_ticket(setting: Setting, a: &[i32], b: &[i32], output: &mut [u8])
+    requires { ⌜ Writable setting (now a) (now b) × (ticketLength setting ≤ length (now output)) ⌝ }
+    ensures { λ r. ⌜ now (output .exit) ≡ ticketOf setting (now (a .entry)) (now (b .entry)) ++ drop (ticketLength setting) (now (output .entry)) ⌝ }
+{
+    let height = setting.rows as u8;
+    let inner = setting.inner as u8;
+    let width = setting.columns as usize;
+    let of_a = setting.start(PartNumber::A) as usize;
+    let of_b = setting.start(PartNumber::B) as usize;
+    records::write_operand(output, of_a, 1, height, inner as usize, a);
+    records::write_operand(output, of_b, 2, inner, width, b);
+    claims::write_claims(setting, a, b, output);
 }

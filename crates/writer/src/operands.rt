@@ -1,27 +1,26 @@
-// The operands: tests 13 and 14, and their entries as 16-bit numbers and as least residues.
+// The operands: tests 13 and 14, and their entries as 16-bit numbers.
 ghost use mathlib.Core.Path.{_≡_};
-ghost use Prim.Native.Nat.{_+_, _*_, _≤_, _^_, _<_};
+ghost use Prim.Native.Nat.{_+_, _*_, _<_, _^_};
 ghost use lib.IntN.{pos, natAbs};
 ghost use lib.ListN.{length};
-ghost use Rattle.residue.specs.Rules.{modulus, leastResidue};
+ghost use Rattle.algebra.specs.Laws.Fills.{Filled};
+ghost use Rattle.exact.specs.Laws.Matrices.{turnedNumber};
+ghost use Rattle.ticket.specs.Rules.{firstRefusal};
 ghost use Rattle.ticket.specs.Laws.All.{all};
-ghost use Rattle.ticket.specs.Laws.Fills.{Columns, ColumnsTo, Filled};
-ghost use Rattle.ticket.specs.Laws.Limits.{Counts};
-ghost use Rattle.writer.specs.Rules.{operandsReading};
-ghost use Rattle.writer.specs.Laws.Operands.{beyondFrom, entryIn, mostEntries, Narrow, TurnReady, withinAt};
-use residue::Residue;
+ghost use Rattle.ticket.specs.Laws.Limits.{Within};
+ghost use Rattle.writer.specs.Rules.{operandNumber, operandsReading};
+ghost use Rattle.writer.specs.Laws.Operands.{withinAt, columnOf, NarrowReady, TurnReady};
 use ticket::Answer;
+use ticket::PartNumber;
 use ticket::Setting;
-
-// The most entries of an operand: B has no more than A.
-pub(crate) const ENTRIES: usize = (Setting::MOST_ROWS * Setting::MOST_INNER) as usize;
 
 // The answer of the tests 13 and 14; its number is 0 where they pass.
 pub(crate) fn read(setting: Setting, a: &[i32], b: &[i32]) -> Answer
-    requires { ⌜ Counts setting ⌝ }
+    requires { ⌜ Within setting ⌝ }
     ensures { λ r. ⌜ r ≡ operandsReading setting (now (a .entry)) (now (b .entry)) ⌝ }
 {
-    if a.len() != (setting.rows * setting.inner) as usize {
+    let of_a = setting.size(PartNumber::A);
+    if a.len() != of_a as usize {
         return Answer {
             number: 13,
             place: 0,
@@ -29,7 +28,7 @@ pub(crate) fn read(setting: Setting, a: &[i32], b: &[i32]) -> Answer
             products: 0,
         };
     }
-    if b.len() != (setting.inner * setting.columns) as usize {
+    if b.len() != setting.size(PartNumber::B) as usize {
         return Answer {
             number: 13,
             place: 1,
@@ -37,18 +36,20 @@ pub(crate) fn read(setting: Setting, a: &[i32], b: &[i32]) -> Answer
             products: 0,
         };
     }
-    let of_a = first_beyond(a, setting.bound, 0);
-    if of_a.number != 0 {
-        return of_a;
+    let in_a = first_beyond(setting, a, 0);
+    if in_a.number != 0 {
+        return in_a;
     }
-    first_beyond(b, setting.bound, setting.rows * setting.inner)
+    first_beyond(setting, b, of_a)
 }
 
-// The first entry beyond the bound, counted from start; number 0 where there is none.
-fn first_beyond(operand: &[i32], bound: u32, start: u32) -> Answer
-    requires { ⌜ (length (now operand) ≤ mostEntries) × (start ≤ mostEntries) ⌝ }
-    ensures { λ r. ⌜ r ≡ beyondFrom start bound (now (operand .entry)) ⌝ }
+// The first entry beyond the bound, its place counted from start; number 0 where there is none. The entries are tested without a
+// branch first; one by one only where some entry is beyond the bound.
+fn first_beyond(setting: Setting, operand: &[i32], start: u32) -> Answer
+    requires { ⌜ start + length (now operand) < 2 ^ 32 ⌝ }
+    ensures { λ r. ⌜ r ≡ firstRefusal start (length (now (operand .entry))) (operandNumber setting (now (operand .entry))) ⌝ }
 {
+    let bound = setting.bound;
     if all_within(operand, bound) {
         return Answer::PASSED;
     }
@@ -67,7 +68,7 @@ fn first_beyond(operand: &[i32], bound: u32, start: u32) -> Answer
     Answer::PASSED
 }
 
-// Whether no entry is beyond the bound, without a branch for each.
+// Whether no entry is beyond the bound.
 fn all_within(operand: &[i32], bound: u32) -> bool
     ensures { λ r. ⌜ r ≡ all (length (now (operand .entry))) (withinAt bound (now (operand .entry))) ⌝ }
 {
@@ -91,52 +92,32 @@ fn magnitude(n: i32) -> u32
     wide as u32
 }
 
-// The entries of a matrix, row by row, at the beginning of the list.
-pub(crate) fn rows(operand: &[i32], list: &mut [i16])
-    requires { ⌜ Narrow (now operand) × (length (now operand) ≤ length (now list)) ⌝ }
-    ensures { λ r. ⌜ Filled (pos 0) (length (now (list .entry))) (length (now (operand .entry))) (entryIn (now (operand .entry))) (now (list .exit)) ⌝ }
+// All columns of a matrix, one after the other, at the beginning of the list.
+pub(crate) fn narrow_columns(matrix: &[i32], height: usize, width: usize, list: &mut [i16])
+    requires { ⌜ TurnReady (now matrix) height width (now list) ⌝ }
+    ensures { λ r. ⌜ Filled (pos 0) (now (list .entry)) (width * height) (turnedNumber (now (matrix .entry)) height width) (now (list .exit)) ⌝ }
 {
-    let mut k = 0;
-    while k < operand.len() {
-        list[k] = operand[k] as i16;
-        k += 1;
-    }
-}
-
-// The entries of a matrix, column by column, at the beginning of the list.
-pub(crate) fn columns(operand: &[i32], height: usize, width: usize, list: &mut [i16])
-    requires { ⌜ Narrow (now operand) × (length (now operand) ≡ height * width) × (length (now operand) ≤ length (now list)) ⌝ }
-    ensures { λ r. ⌜ Columns (pos 0) (length (now (list .entry))) height width (entryIn (now (operand .entry))) (now (list .exit)) ⌝ }
-{
-    let mut row = 0;
-    while row < height {
-        turn_row(operand, height, width, row, list);
-        row += 1;
-    }
-}
-
-// One row of a matrix more: its entries stand height apart.
-fn turn_row(operand: &[i32], height: usize, width: usize, row: usize, list: &mut [i16])
-    requires { ⌜ TurnReady (now operand) height width row (now list) ⌝ }
-    ensures { λ r. ⌜ ColumnsTo (pos 0) (length (now (list .entry))) height width ((row + 1) * width) (entryIn (now (operand .entry))) (now (list .exit)) ⌝ }
-{
-    let start = row * width;
-    let mut at = row;
+    let mut start = 0;
     let mut column = 0;
     while column < width {
-        list[at] = operand[start + column] as i16;
-        at += height;
+        let end = start + height;
+        narrow(matrix, width, column, &mut list[start..end]);
+        start = end;
         column += 1;
     }
 }
 
-// The least residue of a small entry.
-pub(crate) fn residue(entry: i32) -> u32
-    requires { ⌜ natAbs entry < 2 ^ 15 ⌝ }
-    ensures { λ r. ⌜ r ≡ leastResidue modulus entry ⌝ }
+// A column of a matrix as 16-bit numbers. A row is the one column of a matrix as wide as 1. The loop ends by the place in the matrix:
+// so the compiler leaves it as it is, which serves small matrices best.
+pub(crate) fn narrow(matrix: &[i32], width: usize, column: usize, list: &mut [i16])
+    requires { ⌜ NarrowReady (now matrix) width column (now list) ⌝ }
+    ensures { λ r. ⌜ Filled (pos 0) (now (list .entry)) (length (now (list .entry))) (columnOf (now (matrix .entry)) width column) (now (list .exit)) ⌝ }
 {
-    if entry < 0 {
-        return (entry + (Residue::MODULUS as i32)) as u32;
+    let mut at = column;
+    let mut k = 0;
+    while at < matrix.len() {
+        list[k] = matrix[at] as i16;
+        at += width;
+        k += 1;
     }
-    entry as u32
 }

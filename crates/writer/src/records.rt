@@ -1,84 +1,69 @@
 // Writing the records.
 ghost use mathlib.Core.Path.{_≡_};
-ghost use mathlib.Core.List.{_++_};
-ghost use Prim.Native.Nat.{_*_, _≤_};
-ghost use lib.ListN.{drop, length};
-ghost use Rattle.ticket.specs.Rules.{recordBytes, ticketLength};
-ghost use Rattle.writer.specs.Rules.{ticketOf};
-ghost use Rattle.writer.specs.Laws.Operands.{residueIn};
-ghost use Rattle.writer.specs.Laws.Puts.{putAt};
-ghost use Rattle.writer.specs.Laws.Sums.{WriteReady};
-ghost use Rattle.writer.specs.Laws.PartRecords.{lineRecords, LineReady, PartReady, recordsTo, wordsOf};
-use crate::claims::write_claims;
-use crate::operands::residue;
+ghost use Prim.Native.Nat.{_+_, _*_, _≤_, _<_, _^_};
+ghost use lib.IntN.{natAbs};
+ghost use lib.ListN.{length};
+ghost use Rattle.residue.specs.Rules.{modulus, leastResidue};
+ghost use Rattle.ticket.specs.Rules.{recordBytes};
+ghost use Rattle.writer.specs.Laws.Records.{wordsOf};
+ghost use Rattle.writer.specs.Laws.Writes.{Among, Wrote};
+ghost use Rattle.writer.specs.Laws.Lines.{lineRecord, LineReady, operandRecord, OperandReady};
+use residue::Entry;
+use residue::Residue;
 use ticket::RECORD;
-use ticket::Setting;
 
 // By how much the first word of a record grows from one column to the next.
 pub(crate) const COLUMN: u32 = 16_777_216;
 
-// The ticket, at the beginning of the output.
-pub(crate) fn write_ticket(setting: Setting, a: &[i32], b: &[i32], output: &mut [u8])
-    requires { ⌜ WriteReady setting (now a) (now b) × (ticketLength setting ≤ length (now output)) ⌝ }
-    ensures { λ r. ⌜ now (output .exit) ≡ ticketOf setting (now (a .entry)) (now (b .entry)) ++ drop (ticketLength setting) (now (output .entry)) ⌝ }
-{
-    let height = setting.rows as usize;
-    let inner = setting.inner as usize;
-    let width = setting.columns as usize;
-    write_part(output, 0, 1, height, inner, a);
-    let of_a = height * inner;
-    write_part(output, of_a, 2, inner, width, b);
-    write_claims(setting, a, b, output);
-}
-
 // The records of an operand, from record start of the output on.
-fn write_part(
+pub(crate) fn write_operand(
     output: &mut [u8],
     start: usize,
     kind: u8,
-    height: usize,
+    height: u8,
     width: usize,
     operand: &[i32],
 )
-    requires { ⌜ PartReady (now output) start height width (now operand) ⌝ }
-    ensures { λ r. ⌜ now (output .exit) ≡ putAt (now (output .entry)) (recordBytes * start) (recordsTo kind width (residueIn (now (operand .entry))) (height * width)) ⌝ }
+    requires { ⌜ OperandReady start height width (now operand) (now output) ⌝ }
+    ensures { λ r. ⌜ Wrote (operandRecord kind width start (now (operand .entry))) (Among start (height * width)) (now (output .entry)) (now (output .exit)) ⌝ }
 {
+    let mut first = 0;
     let mut row = 0;
     while row < height {
-        let first = row * width;
-        write_line(
-            output,
-            start + first,
-            kind,
-            row as u8,
-            &operand[first..first + width],
-        );
+        let end = first + width;
+        write_line(output, start + first, kind, row, &operand[first..end]);
+        first = end;
         row += 1;
     }
 }
 
-// The records of a row of an operand. Both words of a record are made without a branch, so that the compiler makes several records
-// at a time.
-fn write_line(output: &mut [u8], start: usize, kind: u8, row: u8, entries: &[i32])
-    requires { ⌜ LineReady (now output) start (now entries) ⌝ }
-    ensures { λ r. ⌜ now (output .exit) ≡ putAt (now (output .entry)) (recordBytes * start) (lineRecords kind row (residueIn (now (entries .entry))) (length (now (entries .entry)))) ⌝ }
+// The records of a row of an operand, from record first on. Both words of a record are made without a branch, so that the compiler
+// makes several records at a time.
+fn write_line(output: &mut [u8], first: usize, kind: u8, row: u8, entries: &[i32])
+    requires { ⌜ LineReady first (now entries) (now output) ⌝ }
+    ensures { λ r. ⌜ Wrote (lineRecord kind row first (now (entries .entry))) (Among first (length (now (entries .entry)))) (now (output .entry)) (now (output .exit)) ⌝ }
 {
     let mut header = ticket::word(kind, 0, row, 0);
     let mut column = 0;
     while column < entries.len() {
-        let at = RECORD * (start + column);
-        put(
-            &mut output[at..at + RECORD],
-            header,
-            residue(entries[column]),
-        );
+        let value = residue(Entry(entries[column]));
+        write_record(output, first + column, header, value);
         header += COLUMN;
         column += 1;
     }
 }
 
-// One record, by its two words.
-pub(crate) fn put(bytes: &mut [u8], header: u32, value: u32)
+// Record number of the output, by its first word and its value.
+pub(crate) fn write_record(output: &mut [u8], number: usize, header: u32, value: Residue)
+    requires { ⌜ recordBytes * number + recordBytes ≤ length (now output) ⌝ }
+    ensures { λ r. ⌜ Wrote (λ k. wordsOf header (value .0)) (Among number 1) (now (output .entry)) (now (output .exit)) ⌝ }
+{
+    let at = RECORD * number;
+    put(&mut output[at..at + RECORD], header, value.0);
+}
+
+// The bytes of two words.
+fn put(bytes: &mut [u8], header: u32, value: u32)
     requires { ⌜ length (now bytes) ≡ recordBytes ⌝ }
     ensures { λ r. ⌜ now (bytes .exit) ≡ wordsOf header value ⌝ }
 {
@@ -90,4 +75,16 @@ pub(crate) fn put(bytes: &mut [u8], header: u32, value: u32)
     bytes[5] = (value / 256 % 256) as u8;
     bytes[6] = (value / 65_536 % 256) as u8;
     bytes[7] = (value / 16_777_216 % 256) as u8;
+}
+
+// The least residue of a small entry.
+fn residue(entry: Entry) -> Residue
+    requires { ⌜ natAbs (entry .0) < 2 ^ 15 ⌝ }
+    ensures { λ r. ⌜ r .0 ≡ leastResidue modulus (entry .0) ⌝ }
+{
+    let n = entry.0;
+    if n < 0 {
+        return Residue((n + (Residue::modulus() as i32)) as u32);
+    }
+    Residue(n as u32)
 }

@@ -11,14 +11,18 @@
 --   lineAt x n i         line i of lines of n elements each
 --   line-from            it, from where it starts
 --   digits-same          two numbers by row and column are equal only where these are
+--   Replaced d x a n y z   z is the list x with y in place of its n elements from a on
+--   part-replaced        it is so after a call that is lent that part and leaves y there
+--   filled-part          the next n elements are filled by such a call
 use Prim.Native.Nat.{ℕ, _+_, _-_, _*_, _/_, _%_, _≤_, _<_}
 use native.Mathlib.Decide.{ℕ-discrete, decLt}
 use native.Mathlib.Omega.{arith}
 use mathlib.Core.Path.{_≡_, refl, sym, ap, _∙_}
-use mathlib.Core.List.{List}
+use mathlib.Core.List.{List, _++_}
+use mathlib.Core.Logic.{_⊎_, inl, inr, ⊎-elim}
 use lib.Arith.{digits-div, digits-mod}
-use lib.ListN.{length, getD, set, take, drop, length-set, length-drop}
-use lib.Seq.{getD-set-same, getD-set-other, getD-take, getD-drop, length-take-le, ext-getD}
+use lib.ListN.{length, getD, set, take, drop, length-set, length-drop, length-append, List·getD-append}
+use lib.Seq.{getD-set-same, getD-set-other, getD-take, getD-drop, getD-append-add, length-take-le, ext-getD}
 
 pub record Filled {A : Type 0} (d : A) (before : List A) (count : ℕ) (f : ℕ → A) (list : List A) : Type 0 where
   pub long : length list ≡ length before
@@ -88,3 +92,46 @@ digits-same {a} {b} {c} {d} n l m e = (
   sym (digits-div a l) ∙ ap (λ k. k / n) e ∙ digits-div c m,
   sym (digits-mod a l) ∙ ap (λ k. k % n) e ∙ digits-mod c m,
 )
+
+pub record Replaced {A : Type 0} (d : A) (x : List A) (start n : ℕ) (part after : List A) : Type 0 where
+  pub long : length after ≡ length x
+  pub inside : (i : ℕ) → i < n → getD after (start + i) d ≡ getD part i d
+  pub outside : (i : ℕ) → (i < start) ⊎ (start + n ≤ i) → getD after i d ≡ getD x i d
+
+module _ {A : Type 0} (d : A) (x : List A) (start n : ℕ) (part : List A) where
+  abbrev rest : List A
+  rest = drop (start + n - start) (drop start x)
+
+  pub part-replaced : length part ≡ n → start + n ≤ length x → Replaced d x start n part (take start x ++ (part ++ rest))
+  part-replaced long fits =
+      let front : length (take start x) ≡ start = length-take-le start x (omega arith) in
+      let past : (i : ℕ) → getD (take start x ++ (part ++ rest)) (start + i) d ≡ getD (part ++ rest) i d =
+      λ i. rw front at (getD-append-add (take start x) (part ++ rest) i d) in
+      record {
+        long = length-append (take start x) (part ++ rest)
+            ∙ omega (arith, length-append part rest, length-drop (start + n - start) (drop start x), length-drop start x);
+        inside = λ i l. past i ∙ List·getD-append part rest d i (omega arith);
+        outside = λ i. ⊎-elim
+            (λ l. List·getD-append (take start x) (part ++ rest) d i (omega arith) ∙ getD-take start x i d l)
+            (λ l. let m = i - start - n in
+            let place : i ≡ start + (n + m) = omega arith in
+            let same : start + (start + n - start + m) ≡ i = omega arith in
+            ap (λ k. getD (take start x ++ (part ++ rest)) k d) place ∙ past (n + m) ∙ (rw long at (getD-append-add part rest m d))
+            ∙ getD-drop (start + n - start) (drop start x) m d ∙ getD-drop start x (start + n - start + m) d ∙ ap (λ k. getD x k d) same);
+      }
+
+pub filled-part : {A : Type 0} {d : A} {before list slice part after : List A} {f g : ℕ → A} {count n : ℕ}
+    → Filled d before count f list → Filled d slice n g part → Replaced d list count n part after
+    → ((i : ℕ) → i < n → g i ≡ f (count + i)) → Filled d before (count + n) f after
+filled-part {count = count} {n} filled next put same =
+    record {
+      long = put .long ∙ filled .long;
+      each = λ k l. elim (decLt k count) [
+        | yes m ↦ put .outside k (inl m) ∙ filled .each k m
+        | no m ↦
+            let place : count + (k - count) ≡ k = omega arith in
+            let here : k - count < n = omega arith in
+            rw place at (put .inside (k - count) here ∙ next .each (k - count) here ∙ same (k - count) here)
+      ];
+      rest = λ k l. put .outside k (inr l) ∙ filled .rest k (omega arith);
+    }

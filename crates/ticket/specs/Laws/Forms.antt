@@ -16,13 +16,16 @@
 --   scanned-none         before the first record
 --   scanned-refused      record i is refused: the answer of the part
 --   scanned-next, scanned-row   record i passes too: the next one is in the same row, or at the beginning of the next
+--   FormedBytes b i κ r c, formed-exactly   the form of a record, byte by byte
+--   value-is             the value of a record, by its bytes
 use Prim.Native.Nat.{ℕ, _+_, _-_, _*_, _/_, _%_, _^_, _≤_, _<_}
 use native.Mathlib.Decide.{ℕ-discrete}
 use native.Mathlib.Omega.{arith}
-use mathlib.Core.Path.{_≡_, sym, ap, _∙_}
+use mathlib.Core.Path.{_≡_, refl, sym, ap, _∙_}
+use mathlib.Core.Logic.{_↔_}
 use mathlib.Core.Bool.{true, false}
 use mathlib.Core.List.{List, [], _∷_}
-use borrow.Author.Tests.{le-ltb, lt-ltb}
+use borrow.Author.Tests.{le-ltb, lt-ltb, eq-eqb, eqb-true}
 use lib.Dec.{ltb, eqb}
 use lib.IntN.{pos, _+ℤ_}
 use lib.ListN.{length, getD, take, drop, List·getD-eq-default}
@@ -34,6 +37,7 @@ use Rattle.algebra.specs.Laws.Bytes.{word-eqb}
 use Rattle.algebra.specs.Laws.Fills.{part-of, part-long}
 use Rattle.algebra.specs.Laws.Positions.{Position, position-none, row-of, column-of, position-next, position-row}
 use Rattle.ticket.specs.Rules.{Test, test, firstFailed, recordBytes, byteAt, formed, valueAt, halfRange, refusal, firstRefusal}
+use Rattle.ticket.specs.Laws.Limits.{both}
 use Rattle.ticket.specs.Laws.Scans.{refusal-is}
 use Rattle.ticket.specs.Laws.Tests.{Failed, none, one, here, later, holding-number, failed-number}
 use Rattle.ticket.specs.declared.Answer.{Answer}
@@ -177,3 +181,33 @@ module _ (bytes : List ℕ) (F : Form) where
 
       pub scanned-row : column + 1 ≡ F .columns → Scanned bytes F (i + 1) (row + 1) 0
       scanned-row e = record { at = position-row (s .at) e; before = before-next }
+
+pub record FormedBytes (bytes : List ℕ) (i kind row column : ℕ) : Type 0 where
+  pub kind-byte : byteAt bytes i 0 ≡ kind
+  pub zero-byte : byteAt bytes i 1 ≡ 0
+  pub row-byte : byteAt bytes i 2 ≡ row
+  pub column-byte : byteAt bytes i 3 ≡ column
+
+pub formed-exactly : (bytes : List ℕ) (i kind row column : ℕ) → (formed bytes i kind row column ≡ true) ↔ FormedBytes bytes i kind row column
+unfolding formed
+formed-exactly bytes i kind row column = (
+  λ e. let h = both _ _ e in
+      let k = both _ _ (h .0) in
+      let l = both _ _ (k .0) in
+      record {
+        kind-byte = eqb-true _ _ (l .0);
+        zero-byte = eqb-true _ _ (l .1);
+        row-byte = eqb-true _ _ (k .1);
+        column-byte = eqb-true _ _ (h .1);
+      },
+  λ h. rw (
+    eq-eqb _ _ (h .kind-byte),
+    eq-eqb _ _ (h .zero-byte),
+    eq-eqb _ _ (h .row-byte),
+    eq-eqb _ _ (h .column-byte),
+  ),
+)
+
+pub value-is : (bytes : List ℕ) (i : ℕ) → valueAt bytes i ≡ word (byteAt bytes i 4) (byteAt bytes i 5) (byteAt bytes i 6) (byteAt bytes i 7)
+unfolding valueAt
+value-is bytes i = refl

@@ -21,21 +21,25 @@
 --   located-once          and at no other part, row or column
 --   locatedTests G t k w i j, tests-located   the tests of record k by its part, row and column
 --   value-in              the value in a row and a column of a part is that of its record
-use Prim.Native.Nat.{ℕ, zero, suc, _+_, _-_, _*_, _/_, _%_, _≤_, _<_, min}
+--   PartIs P κ r c f      the part P has kind κ, r rows and c columns, and the values in range are those of f
+--   part-A, part-B, part-quotients, part-remainders   what each part is
+use Prim.Native.Nat.{ℕ, zero, suc, _+_, _-_, _*_, _/_, _%_, _^_, _≤_, _<_, min}
 use native.Mathlib.Nat.{add-sub-cancel-left, min-eq-left, min-eq-right, mod-lt, div-add-mod', div-lt-iff-lt-mul}
 use native.Mathlib.Decide.{decLe, ℕ-discrete}
 use native.Mathlib.Numerals.{add-one}
 use native.Mathlib.Omega.{arith}
 use lib.Arith.{digits-div, digits-mod, digits-lt}
 use mathlib.Core.Path.{_≡_, refl, sym, ap, _∙_}
+use mathlib.Core.Bool.{Bool}
 use mathlib.Core.List.{List, [], _∷_}
 use borrow.Author.Tests.{lt-ltb, le-ltb}
-use lib.Dec.{ltb, lit<}
+use lib.Dec.{leb, ltb, lit<}
+use lib.IntN.{natAbs}
 use lib.ListN.{length, getD, take, drop, length-drop, drop-of-length-le, List·getD-eq-default}
 use lib.Seq.{take-all, take-nil, take-length, drop-length, getD-drop, getD-take, length-take-le}
-use Rattle.residue.specs.Rules.{modulus}
+use Rattle.residue.specs.Rules.{modulus, signedEntry}
 use Rattle.ticket.specs.declared.setting.Setting.{Setting}
-use Rattle.ticket.specs.Rules.{mostRows, mostInner, mostColumns, Test, test, Part, noPart, parts, part, partSize, count, start, records, recordBytes, ticketLength, holder, ofA, ofB, ofQuotients, ofRemainders, byteAt, valueAt, formed, partTests, recordTests, valueIn}
+use Rattle.ticket.specs.Rules.{mostRows, mostInner, mostColumns, halfRange, isEntry, shiftedQuotient, Test, test, Part, noPart, parts, part, partSize, count, start, records, recordBytes, ticketLength, holder, ofA, ofB, ofQuotients, ofRemainders, byteAt, valueAt, formed, partTests, recordTests, valueIn}
 use Rattle.ticket.specs.Laws.Limits.{Counts}
 
 -- any list of parts
@@ -307,3 +311,29 @@ tests-located {G} t {k} {w} {row} {column} at =
 pub value-in : (G : Setting) (t : List ℕ) (w i j : ℕ) → valueIn G t w i j ≡ valueAt t (start G w + (i * part G w .columns + j))
 unfolding valueIn
 value-in G t w i j = refl
+
+pub record PartIs (P : Part) (kind rows columns : ℕ) (range : ℕ → Bool) : Type 0 where
+  pub kind-is : P .kind ≡ kind
+  pub rows-are : P .rows ≡ rows
+  pub columns-are : P .columns ≡ columns
+  pub range-is : (x : ℕ) → P .range x ≡ range x
+
+module _ (G : Setting) where
+  abbrev entries : ℕ → Bool
+  entries x = leb (natAbs (signedEntry modulus x)) (G .bound)
+
+  pub part-A : PartIs (part G ofA) 1 (G .rows) (G .inner) entries
+  unfolding parts part isEntry
+  part-A = record { kind-is = refl; rows-are = refl; columns-are = refl; range-is = λ x. refl }
+
+  pub part-B : PartIs (part G ofB) 2 (G .inner) (G .columns) entries
+  unfolding parts part isEntry
+  part-B = record { kind-is = refl; rows-are = refl; columns-are = refl; range-is = λ x. refl }
+
+  pub part-quotients : PartIs (part G ofQuotients) 3 (G .rows) (G .columns) (λ x. ltb ((x + halfRange G) % modulus) (2 ^ G .width))
+  unfolding parts part shiftedQuotient
+  part-quotients = record { kind-is = refl; rows-are = refl; columns-are = refl; range-is = λ x. refl }
+
+  pub part-remainders : PartIs (part G ofRemainders) 4 (G .rows) (G .columns) (λ x. ltb x (G .scale))
+  unfolding parts part
+  part-remainders = record { kind-is = refl; rows-are = refl; columns-are = refl; range-is = λ x. refl }

@@ -1,28 +1,43 @@
--- Quotient and remainder of a sum, as the written ticket claims them.
+-- Quotient and remainder of a sum, as the written ticket claims them and as the code makes them.
 --
---   claim-sum        scale times quotient plus remainder is the sum
---   remainder-left   the remainder is a natural number below the scale
-use Prim.Native.Nat.{ℕ, _<_}
+--   claim-sum         scale times quotient plus remainder is the sum
+--   remainder-left    the remainder is a natural number below the scale
+--   liftedOf G s      the sum that s is modulo 2^32, lifted
+--   quotientFor G s, remainderFor G s   the least residue of its quotient, and its remainder
+--   Claimed G s q r   q and r are these
+--   Lifting G h l     the setting's numbers pass; h is half of the quotients' range, and l is the lift
+--   quotient-low, quotient-high, remainder-made   quotient and remainder, as the code makes them
+--   quotient-true, remainder-true   they are those of a sum that is small enough
+use Prim.Native.Nat.{ℕ, _+_, _-_, _*_, _/_, _%_, _≤_, _<_, _^_}
+use native.Mathlib.Nat.{div-add-mod, div-le-self, mod-eq-of-lt, mod-lt}
 use native.Mathlib.Omega.{arith}
 use mathlib.Core.Path.{_≡_, sym, ap, _∙_}
 use mathlib.Core.List.{List}
-use lib.IntN.{ℤ, pos, _+ℤ_, _-ℤ_, _*ℤ_, +ℤ-comm, -ℤ-+ℤ-cancel}
-use Rattle.residue.specs.Laws.Integers.{positive, negative, equal-of-parts, parts-sum}
-use Rattle.algebra.specs.Laws.FloorDivision.{floor-left}
+use lib.IntN.{ℤ, pos, natAbs, _+ℤ_, _-ℤ_, _*ℤ_, +ℤ-comm, -ℤ-+ℤ-cancel}
+use Rattle.residue.specs.Rules.{modulus, leastResidue}
+use Rattle.residue.specs.Laws.Integers.{positive, negative, equal-of-parts, parts-sum, parts-difference, parts-product}
+use Rattle.residue.specs.Laws.Modulo.{sumOnce, sum-once, sum-once-low, sum-once-high}
+use Rattle.residue.specs.Laws.Modulus.{modulus-above, modulus-positive}
+use Rattle.residue.specs.Laws.Residues.{residue-of-residue, residue-of-natural, residue-lifted}
+use Rattle.algebra.specs.Rules.{floorDivision}
+use Rattle.algebra.specs.Laws.FloorDivision.{floor-left, floor-unique}
 use Rattle.ticket.specs.declared.setting.Setting.{Setting}
-use Rattle.writer.specs.Rules.{sumOf, quotientOf, remainderOf}
+use Rattle.ticket.specs.Rules.{reach, halfRange, lift}
+use Rattle.ticket.specs.Laws.Limits.{Numbers, Fitted, half-small}
+use Rattle.ticket.specs.Laws.Lifts.{Lifted, lifted-small, lifted-sum}
+use Rattle.writer.specs.Rules.{sumFor, quotientOf, remainderOf}
 
 module _ (G : Setting) (A B : List ℤ) (i j : ℕ) where
-  pub claim-sum : pos (G .scale) *ℤ quotientOf G A B i j +ℤ remainderOf G A B i j ≡ sumOf G A B i j
+  pub claim-sum : pos (G .scale) *ℤ quotientOf G A B i j +ℤ remainderOf G A B i j ≡ sumFor G A B i j
   unfolding remainderOf
   claim-sum =
       let product = pos (G .scale) *ℤ quotientOf G A B i j in
-      +ℤ-comm product (sumOf G A B i j -ℤ product) ∙ -ℤ-+ℤ-cancel (sumOf G A B i j) product
+      +ℤ-comm product (sumFor G A B i j -ℤ product) ∙ -ℤ-+ℤ-cancel (sumFor G A B i j) product
 
   pub remainder-left : 0 < G .scale → (r : ℕ) × (r < G .scale) × (remainderOf G A B i j ≡ pos r)
   unfolding quotientOf
   remainder-left above =
-      let h = floor-left (sumOf G A B i j) (G .scale) above in
+      let h = floor-left (sumFor G A B i j) (G .scale) above in
       let product = pos (G .scale) *ℤ quotientOf G A B i j in
       let same = claim-sum ∙ sym (h .2) in (
         h .0,
@@ -36,3 +51,110 @@ module _ (G : Setting) (A B : List ℤ) (i j : ℕ) where
               ap negative same,
             )),
       )
+
+-- as the code makes them
+
+abbrev pub liftedOf : Setting → ℕ → ℕ
+liftedOf G sum = (sum + lift G) % 2 ^ 32
+
+unfoldable pub quotientFor : Setting → ℕ → ℕ
+quotientFor G sum = sumOnce modulus (liftedOf G sum / G .scale) (modulus - halfRange G)
+
+unfoldable pub remainderFor : Setting → ℕ → ℕ
+remainderFor G sum = liftedOf G sum % G .scale
+
+pub record Claimed (G : Setting) (sum quotient remainder : ℕ) : Type 0 where
+  pub quotient-is : quotient ≡ quotientFor G sum
+  pub remainder-is : remainder ≡ remainderFor G sum
+
+pub record Lifting (G : Setting) (half lifting : ℕ) : Type 0 where
+  pub numbers : Numbers G
+  pub fitted : Fitted G
+  pub half-is : half ≡ halfRange G
+  pub lift-is : lifting ≡ lift G
+
+module _ {G : Setting} {half lifting x : ℕ} (ready : Lifting G half lifting) (sum : ℕ) (x-is : x ≡ (sum + lifting) % 2 ^ 32) where
+  x-lifted : x ≡ liftedOf G sum
+  x-lifted = x-is ∙ ap (λ n. (sum + n) % 2 ^ 32) (ready .lift-is)
+
+  pub remainder-made : x % G .scale ≡ remainderFor G sum
+  unfolding remainderFor
+  remainder-made = ap (λ n. n % G .scale) x-lifted
+
+  pub half-low : half ≤ 2 ^ 29
+  half-low = omega (arith, half-small (ready .numbers), ready .half-is)
+
+  quotient-made : {q : ℕ} → sumOnce modulus (x / G .scale) (modulus - half) ≡ q → q ≡ quotientFor G sum
+  unfolding quotientFor
+  quotient-made e = sym e ∙ rw (x-lifted, ready .half-is)
+
+  pub quotient-low : {p : ℕ} → p ≡ modulus → x / G .scale < half → x / G .scale + (p - half) ≡ quotientFor G sum
+  quotient-low p-is l = rw p-is (quotient-made (sum-once-low modulus (x / G .scale) (modulus - half) (omega (arith, half-low, modulus-above))))
+
+  pub quotient-high : half ≤ x / G .scale → x / G .scale - half ≡ quotientFor G sum
+  quotient-high l =
+      quotient-made (sum-once-high modulus (x / G .scale) (modulus - half) (omega (arith, half-low, modulus-above)) ∙ omega (arith, half-low, modulus-above))
+
+-- the claim that a small sum makes
+
+module _ {G : Setting} (numbers : Numbers G) (fitted : Fitted G) (S : ℤ) (small : natAbs S ≤ reach G) {sum : ℕ}
+    (sum-is : sum ≡ leastResidue (2 ^ 32) S) where
+  lifted : Lifted G S (liftedOf G sum)
+  lifted = lifted-sum numbers fitted S small (ap (λ n. (n + lift G) % 2 ^ 32) sum-is)
+
+  abbrev shifted : ℤ
+  shifted = pos (liftedOf G sum / G .scale) -ℤ pos (halfRange G)
+
+  divided : pos (G .scale) *ℤ shifted +ℤ pos (remainderFor G sum) ≡ S
+  unfolding remainderFor
+  divided =
+      let x = liftedOf G sum in
+      let scaled = pos (G .scale) *ℤ shifted in
+      equal-of-parts (scaled +ℤ pos (x % G .scale)) S
+      (omega (
+        arith,
+        parts-sum scaled (pos (x % G .scale)),
+        parts-product (pos (G .scale)) shifted,
+        ap (λ n. G .scale * n) (parts-difference (pos (x / G .scale)) (pos (halfRange G))),
+        div-add-mod x (G .scale),
+        parts-sum S (pos (lift G)),
+        ap positive lifted,
+        ap negative lifted,
+      ))
+
+  left-small : remainderFor G sum < G .scale
+  unfolding remainderFor
+  left-small = mod-lt (liftedOf G sum) (omega (arith, numbers .scale))
+
+  quotient : shifted ≡ floorDivision S (G .scale)
+  quotient = floor-unique S shifted (G .scale) (remainderFor G sum) left-small divided
+
+  pub quotient-true : quotientFor G sum ≡ leastResidue modulus (floorDivision S (G .scale))
+  unfolding quotientFor
+  quotient-true =
+      let x = liftedOf G sum / G .scale in
+      let half = halfRange G in
+      let room : half < modulus = omega (arith, half-small {G = G} numbers, modulus-above) in
+      let below : x < modulus = omega (arith, lifted-small numbers fitted S small lifted, div-le-self (liftedOf G sum) (G .scale)) in
+      let reduced : half % modulus ≡ half = mod-eq-of-lt room in
+      let same : x + (modulus - half) ≡ x + modulus - half = omega arith in
+      sum-once modulus x (modulus - half) below (omega arith)
+      ∙ sym (residue-of-natural modulus modulus-positive (x + (modulus - half)))
+      ∙ ap (λ n. leastResidue modulus (pos n)) same
+      ∙ (rw reduced at (residue-lifted modulus modulus-positive x half))
+      ∙ ap (leastResidue modulus) quotient
+
+  pub remainder-true : remainderFor G sum ≡ leastResidue modulus (S -ℤ pos (G .scale) *ℤ floorDivision S (G .scale))
+  remainder-true =
+      let scaled = pos (G .scale) *ℤ shifted in
+      let left : pos (remainderFor G sum) ≡ S -ℤ scaled =
+      equal-of-parts (pos (remainderFor G sum)) (S -ℤ scaled)
+      (omega (
+        arith,
+        parts-difference S scaled,
+        parts-sum scaled (pos (remainderFor G sum)),
+        ap positive divided,
+        ap negative divided,
+      )) in
+      sym (residue-of-residue modulus modulus-positive (remainderFor G sum) (omega (arith, left-small, numbers .scale, modulus-above)))
+      ∙ ap (leastResidue modulus) (left ∙ ap (λ z. S -ℤ pos (G .scale) *ℤ z) quotient)

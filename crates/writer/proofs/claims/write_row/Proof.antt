@@ -1,143 +1,98 @@
-use Prim.Native.Nat.{_+_, _-_, _*_, _≤_, _<_}
+-- The loop keeps the first claims of the row in the output, the first words of the next two records, and in `from` where the next
+-- column begins.
+use Prim.Native.Nat.{_+_, _-_, _*_, _^_, _≤_, _<_}
 use native.Mathlib.Omega.{arith}
 use mathlib.Core.Path.{_≡_, ap, _∙_}
-use lib.ListN.{length}
 use borrow.Author.Needs.{needs}
-use Rattle.ticket.specs.Laws.Positions.{row-inside}
-use Rattle.writer.specs.Laws.PartRecords.{headerOf}
-use Rattle.writer.specs.Laws.ClaimRecords.{claimPut, lineClaims, line-claims-none, line-claims-long, claim-put}
+use lib.ListN.{length}
+use Rattle.algebra.specs.Rules.{word}
+use Rattle.algebra.specs.Laws.Positions.{row-inside}
+use Rattle.ticket.specs.Rules.{recordBytes}
+use Rattle.writer.specs.Laws.Rows.{RowTo, row-none, row-claim}
 use Rattle.writer.proofs.claims.write_row.Statement.{statement}
 use Rattle.writer.proofs.claims.write_row.Tie as tie
 
 abbrev Inv-loop : tie.InvT-loop
-Inv-loop setting half row x y quotients remainders output₀ inner width header₀ column₀ output header column =
-    (column ≤ setting .columns) × (header ≡ headerOf 3 row column) × (output ≡ lineClaims setting x y row quotients remainders column output₀)
+Inv-loop setting half lift row line columns quotients remainders output₀ width quotient₀ remainder₀ from₀ column₀ output quotient remainder from column =
+    (column ≤ setting .columns) × (from ≡ column * setting .inner) × (length output ≡ length output₀) × (quotient ≡ word 3 0 row column)
+    × (remainder ≡ word 4 0 row column) × RowTo setting row line columns quotients remainders column output₀ output
 
 abbrev μ-loop : tie.MeasureT-loop
-μ-loop setting half row x y quotients remainders output₀ inner width header₀ column₀ output header column =
+μ-loop setting half lift row line columns quotients remainders output₀ width quotient₀ remainder₀ from₀ column₀ output quotient remainder from column =
     setting .columns - column
 
 abbrev start : tie.At-loop Inv-loop μ-loop → tie.Start Inv-loop μ-loop
 start c = c .before .before .before .before .before
 
-long : (c : tie.At-loop Inv-loop μ-loop) → length (c .loop .output) ≡ length (start c .args .output .now)
-long c =
-    line-claims-long (start c .args .setting) (start c .args .x .now) (start c .args .y .now) (start c .args .row) (start c .args .quotients) (start c .args .remainders)
-    (c .loop .column) (start c .args .output .now) (omega (arith, start c .pre .apart)) (omega (arith, start c .pre .room)) (c .loop .inv .2)
+-- the column is inside the columns
+room : (c : tie.In-loop Inv-loop μ-loop) → let at = c .before in
+    at .loop .from + length (start at .args .line .now) ≤ length (start at .args .columns .now)
+room c =
+    let pre = start (c .before) .pre in
+    omega (arith, row-inside (start (c .before) .args .setting .inner) (c .loop-test .taken), c .before .loop .inv .1, pre .long-line, pre .long-columns)
 
-more : (c : tie.In-loop Inv-loop μ-loop) → c .before .loop .column < start (c .before) .args .setting .columns
-more c = c .loop-test .taken
+-- the places of a turn: both records are written, the first is, the sum is divided, the turn begins
+abbrev one-at : tie.After-write-record-arg2 Inv-loop μ-loop → tie.After-write-record Inv-loop μ-loop
+one-at c = c .before .before .before
 
-inside : (c : tie.In-loop Inv-loop μ-loop)
-    → c .before .loop .column * start (c .before) .args .setting .inner + start (c .before) .args .setting .inner ≤ length (start (c .before) .args .y .now)
-inside c = omega (arith, row-inside (start (c .before) .args .setting .inner) (more c), start (c .before) .pre .lines)
+abbrev divided : tie.After-write-record Inv-loop μ-loop → tie.After-divide Inv-loop μ-loop
+divided c = c .before .before
 
-cast-inner : tie.Need-cast-inner Inv-loop μ-loop
-cast-inner c = search needs
+abbrev begun : tie.After-divide Inv-loop μ-loop → tie.In-loop Inv-loop μ-loop
+begun c = c .before .before .before
 
-cast-width : tie.Need-cast-width Inv-loop μ-loop
-cast-width c = search needs
+abbrev turn : tie.After-slice-known3 Inv-loop μ-loop → tie.In-loop Inv-loop μ-loop
+turn c = begun (divided (one-at (c .before .before .before)))
 
-word-requires : tie.Need-word-requires Inv-loop μ-loop
-word-requires c κs = search needs
+-- a record of the claim is inside the output
+record Inside (c : tie.In-loop Inv-loop μ-loop) : Type 0 where
+  quotient : recordBytes * (start (c .before) .args .quotients + c .before .loop .column) + recordBytes ≤ length (c .before .loop .output)
+  remainder : recordBytes * (start (c .before) .args .remainders + c .before .loop .column) + recordBytes ≤ length (c .before .loop .output)
+  early : (start (c .before) .args .quotients + c .before .loop .column < 2 ^ 61) × (start (c .before) .args .remainders + c .before .loop .column < 2 ^ 61)
+  few : c .before .loop .column < 32
 
-loop-holds : tie.Need-loop-holds Inv-loop μ-loop
-loop-holds c = (omega arith, c .word .ensures, line-claims-none _ _ _ _ _ _ _)
-
-mul-from : tie.Need-mul-from Inv-loop μ-loop
-mul-from c = omega (arith, inside c)
-
-add-dot : tie.Need-add-dot Inv-loop μ-loop
-add-dot c = omega (arith, inside c)
-
-mul-dot : tie.Need-mul-dot Inv-loop μ-loop
-mul-dot c = omega (arith, inside c)
-
-sub-dot : tie.Need-sub-dot Inv-loop μ-loop
-sub-dot c = omega (arith, inside c)
-
-part-dot-start : tie.Need-part-dot-start Inv-loop μ-loop
-part-dot-start c = omega (arith, inside c)
-
-part-dot-end : tie.Need-part-dot-end Inv-loop μ-loop
-part-dot-end c = omega (arith, inside c)
-
-dot-requires : tie.Need-dot-requires Inv-loop μ-loop
-dot-requires c κs = search needs
-
-add-write-claim : tie.Need-add-write-claim Inv-loop μ-loop
-add-write-claim c = omega (arith, start (c .before .before .before) .pre .apart, start (c .before .before .before) .pre .early, c .before .before .loop-test .taken)
-
-add-write-claim-2 : tie.Need-add-write-claim-2 Inv-loop μ-loop
-add-write-claim-2 c = omega (arith, start (c .before .before .before) .pre .apart, start (c .before .before .before) .pre .early, c .before .before .loop-test .taken)
-
-write-claim-requires : tie.Need-write-claim-requires Inv-loop μ-loop
-write-claim-requires c κs =
-    let at = c .before .before .before .before in
-    let pre = start at .pre in
-    let more = c .before .before .before .loop-test .taken in
+inside : (c : tie.In-loop Inv-loop μ-loop) → Inside c
+inside c =
+    let pre = start (c .before) .pre in
+    let more = c .loop-test .taken in
+    let long = c .before .loop .inv .2 in
     record {
-      numbers = pre .numbers;
-      fitted = pre .fitted;
-      half-is = pre .half-is;
-      small = omega (arith, at .loop .inv .1, start at .fits, pre .counts .sizes .columns);
-      apart = omega (arith, pre .apart);
-      early = omega (arith, pre .early, pre .counts .sizes .columns);
-      room = omega (arith, pre .room, long at);
+      quotient = omega (arith, pre .room-quotients);
+      remainder = omega (arith, pre .room-remainders);
+      early = omega (arith, pre .room-quotients, pre .room-remainders);
+      few = omega (arith, pre .sizes .columns);
     }
-
-add-header : tie.Need-add-header Inv-loop μ-loop
-add-header c = omega (arith, c .before .before .before .before .before .before .before .loop .inv .1, start (c .before .before .before .before .before .before .before) .fits, start (c .before .before .before .before .before .before .before) .pre .counts .sizes .columns, c .before .before .before .before .before .before .loop-test .taken)
-
-add-column : tie.Need-add-column Inv-loop μ-loop
-add-column c = omega (arith, start (c .before .before .before .before .before .before .before) .pre .counts .sizes .columns, c .before .before .before .before .before .before .loop-test .taken)
-
-loop-less : tie.Need-loop-less Inv-loop μ-loop
-loop-less c = omega arith
 
 loop-again : tie.Need-loop-again Inv-loop μ-loop
 loop-again c =
-    let at = c .before .before .before .before .before .before .before in
-    let pre = start at .pre in
-    let more = c .before .before .before .before .before .before .loop-test .taken in (
+    let second = c .before .before in
+    let first = one-at (second .before) in
+    let result = divided first in
+    let at = begun result .before in
+    let pre = start at .pre in (
       omega arith,
-      omega (arith, at .loop .inv .1),
-      claim-put (start at .args .setting) (start at .args .x .now) (start at .args .y .now) (start at .args .row) (start at .args .quotients) (start at .args .remainders) (at .loop .column) (at .loop .header) (start at .args .output .now)
-          (omega (arith, start at .fits)) (omega (arith, pre .counts .sizes .columns)) (omega (arith, pre .apart)) (omega (arith, pre .room)) (at .loop .inv .2) (at .loop .inv .1)
-          (c .before .before .write-claim .ensures ∙ ap (λ sum. claimPut (start at .args .setting) sum (at .loop .header) (start at .args .quotients + at .loop .column) (start at .args .remainders + at .loop .column) (at .loop .output)) (c .before .before .before .before .dot .ensures)),
+      omega (arith, at .loop .inv .1, pre .long-line),
+      second .write-record2 .ensures .long ∙ first .write-record .ensures .long ∙ at .loop .inv .2,
+      omega (arith, at .loop .inv .3),
+      omega (arith, at .loop .inv .4),
+      row-claim pre (start at .fits .row .fits) (begun result .loop-test .taken) (at .loop .inv .1) (at .loop .inv .5) (result .before .dot .ensures)
+          (result .divide .ensures) (at .loop .inv .3) (at .loop .inv .4) (first .write-record .ensures) (second .write-record2 .ensures),
     )
-
-same-length : tie.Need-same-length Inv-loop μ-loop
-same-length c = long (c .before)
 
 returns : tie.Need-returns Inv-loop μ-loop
 returns c =
     let all : c .before .loop .column ≡ start (c .before) .args .setting .columns = omega arith in
-    rw all at (c .before .loop .inv .2)
+    record { long = c .before .loop .inv .2; wrote = rw all at (c .before .loop .inv .5) }
 
 pub write-row-spec : {M : Type 1} → statement M
 write-row-spec =
     tie.close
-    (tie.spec
-    Inv-loop
-    μ-loop
-    cast-inner
-    cast-width
-    word-requires
-    loop-holds
-    mul-from
-    add-dot
-    mul-dot
-    sub-dot
-    part-dot-start
-    part-dot-end
-    dot-requires
-    add-write-claim
-    add-write-claim-2
-    write-claim-requires
-    add-header
-    add-column
-    loop-less
-    loop-again
-    same-length
-    returns)
+    (tie.spec Inv-loop μ-loop (λ c. search needs) (λ c κs. search needs) (λ c κs. search needs)
+    (λ c. (omega arith, omega arith, omega arith, c .before .word .ensures, c .word2 .ensures, row-none))
+    (λ c. omega (arith, room c)) (λ c. omega (arith, room c)) (λ c. omega arith) (λ c. omega arith) (λ c. omega (arith, room c))
+    (λ c κs. search needs) (λ c κs. start (c .before .before .before) .pre .lifts) (λ c. omega (arith, inside (begun (c .before))))
+    (λ c κs. omega (arith, inside (begun (c .before)))) (λ c. omega (arith, inside (begun (divided (one-at c)))))
+    (λ c κs. omega (arith, inside (begun (divided (one-at c))), one-at c .write-record .ensures .long))
+    (λ c. omega (arith, inside (turn c))) (λ c. omega (arith, inside (turn c))) (λ c. omega (arith, inside (turn c)))
+    (λ c. omega (arith, turn c .loop-test .taken)) loop-again
+    (λ c. c .before .loop .inv .2) returns)

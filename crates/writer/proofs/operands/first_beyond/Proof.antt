@@ -1,79 +1,55 @@
+-- The loop keeps that no entry before k is beyond the bound.
 use Prim.Native.Nat.{ℕ, _-_, _≤_, _<_}
 use native.Mathlib.Omega.{arith}
-use mathlib.Core.Path.{_≡_, ap, _∙_}
+use mathlib.Core.Path.{_≡_, sym, ap, _∙_}
 use borrow.Author.Needs.{needs}
 use lib.IntN.{pos, natAbs}
 use lib.ListN.{length, getD}
-use mir.Syntax.{w32}
-use mir.Facts.{toZ-ofZ}
-use Rattle.writer.specs.Laws.Operands.{before-more, beyond-none, beyond-within, beyond-at}
+use Rattle.writer.specs.Laws.Operands.{size-read, before-more, beyond-none, beyond-within, beyond-at}
 use Rattle.writer.proofs.operands.first_beyond.Statement.{statement}
 use Rattle.writer.proofs.operands.first_beyond.Tie as tie
 
 abbrev Inv-loop : tie.InvT-loop
-Inv-loop operand bound start k₀ k = (k ≤ length operand) × ((i : ℕ) → i < k → natAbs (getD operand i (pos 0)) ≤ bound)
+Inv-loop operand start bound k₀ k = (k ≤ length operand) × ((i : ℕ) → i < k → natAbs (getD operand i (pos 0)) ≤ bound)
 
 abbrev μ-loop : tie.MeasureT-loop
-μ-loop operand bound start k₀ k = length operand - k
+μ-loop operand start bound k₀ k = length operand - k
 
-all-within-requires : tie.Need-all-within-requires Inv-loop μ-loop
-all-within-requires c κs = search needs
+abbrev begun : tie.At-loop Inv-loop μ-loop → tie.Start Inv-loop μ-loop
+begun c = c .before .before .before
 
 returns : tie.Need-returns Inv-loop μ-loop
-returns c = beyond-within _ _ _ (c .before .all-within .ensures) (c .if1 .taken)
+returns c =
+    let start = c .before .before in
+    sym (beyond-within (start .args .setting) (start .args .operand .now) (start .args .start) (c .before .all-within .ensures) (c .if1 .taken))
 
-loop-holds : tie.Need-loop-holds Inv-loop μ-loop
-loop-holds c = (omega arith, λ i l. omega arith)
-
-mul-magnitude : tie.Need-mul-magnitude Inv-loop μ-loop
-mul-magnitude c = omega arith
-
-shared-slice-copy-out-magnitude : tie.Need-shared-slice-copy-out-magnitude Inv-loop μ-loop
-shared-slice-copy-out-magnitude c = omega arith
-
-magnitude-requires : tie.Need-magnitude-requires Inv-loop μ-loop
-magnitude-requires c κs = search needs
-
-size-is : (c : tie.After-magnitude Inv-loop μ-loop) → c .magnitude .result ≡ natAbs (getD (c .before .before .before .before .before .before .args .operand .now) (c .before .before .before .loop .k) (pos 0))
-size-is c = c .magnitude .ensures ∙ ap natAbs (toZ-ofZ {w = w32} {z = getD (c .before .before .before .before .before .before .args .operand .now) (c .before .before .before .loop .k) (pos 0)} (record { sfits = c .before .magnitude-arg .given }))
-
-cast-t11 : tie.Need-cast-t11 Inv-loop μ-loop
-cast-t11 c = omega (arith, c .before .before .before .before .before .before .before .pre)
-
-add-t12 : tie.Need-add-t12 Inv-loop μ-loop
-add-t12 c = omega (arith, c .before .before .before .before .before .before .before .pre)
+size-is : (c : tie.After-magnitude Inv-loop μ-loop) → let at = c .before .before .before in
+    c .magnitude .result ≡ natAbs (getD (begun at .args .operand .now) (at .loop .k) (pos 0))
+size-is c =
+    let at = c .before .before .before in
+    size-read (begun at .args .operand .now) (at .loop .k) (c .before .magnitude-arg .given) (c .magnitude .ensures)
 
 returns-2 : tie.Need-returns-2 Inv-loop μ-loop
-returns-2 c = beyond-at _ _ _ (c .before .before .before .loop-test .taken) (size-is (c .before)) (c .before .before .before .before .loop .inv .1) (c .if2 .taken)
-
-add-k : tie.Need-add-k Inv-loop μ-loop
-add-k c = omega arith
-
-loop-less : tie.Need-loop-less Inv-loop μ-loop
-loop-less c = omega arith
+returns-2 c =
+    let at = c .before .before .before .before in
+    let start = begun at in
+    sym (beyond-at (start .args .setting) (start .args .operand .now) (start .args .start) (c .before .before .before .loop-test .taken)
+    (at .loop .inv .1) (omega (arith, size-is (c .before), c .if2 .taken)))
 
 loop-again : tie.Need-loop-again Inv-loop μ-loop
-loop-again c = (omega arith, before-more (c .before .before .before .before .before .before .before .args .start) (c .before .before .before .before .before .before .before .args .bound) (c .before .before .before .before .before .before .before .args .operand .now) (c .before .before .before .before .loop .inv .1) (size-is (c .before)) (c .if2 .left))
+loop-again c =
+    let at = c .before .before .before .before in
+    let start = begun at in
+    (omega arith, before-more (start .args .setting) (start .args .operand .now) (at .loop .inv .1) (size-is (c .before)) (c .if2 .left))
 
 returns-3 : tie.Need-returns-3 Inv-loop μ-loop
-returns-3 c = beyond-none _ _ _ (λ k l. c .before .loop .inv .1 k (omega arith))
+returns-3 c =
+    let start = begun (c .before) in
+    sym (beyond-none (start .args .setting) (start .args .operand .now) (start .args .start) (λ k l. c .before .loop .inv .1 k (omega arith)))
 
 pub first-beyond-spec : {M : Type 1} → statement M
 first-beyond-spec =
     tie.close
-    (tie.spec
-    Inv-loop
-    μ-loop
-    all-within-requires
-    returns
-    loop-holds
-    mul-magnitude
-    shared-slice-copy-out-magnitude
-    magnitude-requires
-    cast-t11
-    add-t12
-    returns-2
-    add-k
-    loop-less
-    loop-again
-    returns-3)
+    (tie.spec Inv-loop μ-loop (λ c κs. search needs) returns (λ c. (omega arith, λ i l. absurd (omega arith))) (λ c. omega arith)
+    (λ c. omega arith) (λ c κs. search needs) (λ c. omega (arith, begun (c .before .before .before .before) .pre))
+    (λ c. omega (arith, begun (c .before .before .before .before) .pre)) returns-2 (λ c. omega arith) (λ c. omega arith) loop-again returns-3)

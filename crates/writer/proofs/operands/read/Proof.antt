@@ -1,53 +1,75 @@
-use Rattle.writer.specs.Laws.Operands.{length-A-wrong, length-B-wrong, beyond-in-A, beyond-in-B}
+use native.Mathlib.Omega.{arith}
+use mathlib.Core.Path.{_≡_, sym, ap, _∙_}
 use borrow.Author.Needs.{needs}
+use borrow.Author.Tests.{eq-eqb, ne-eqb}
+use lib.ListN.{length}
+use Rattle.ticket.specs.declared.setting.Setting.{Setting}
+use Rattle.ticket.specs.Rules.{part, partSize, ofA, ofB, firstRefusal}
+use Rattle.ticket.specs.Laws.Limits.{Within, clamped, clamped-same, counts}
+use Rattle.ticket.specs.Laws.Layout.{parts-are}
+use Rattle.ticket.specs.Laws.Scans.{after-passed, after-refused}
+use Rattle.writer.specs.Rules.{operandNumber, operandsReading}
+use Rattle.writer.specs.Laws.Answers.{in-order}
 use Rattle.writer.proofs.operands.read.Statement.{statement}
 use Rattle.writer.proofs.operands.read.Tie as tie
 
-mul-if1 : tie.Need-mul-if1
-mul-if1 c = search needs
+abbrev start : tie.After-size → tie.Start
+start c = c .before
 
-cast-if1 : tie.Need-cast-if1
-cast-if1 c = search needs
+-- the sizes of the operands
+size-A : (c : tie.After-size) → c .size .result ≡ partSize (part (start c .args .setting) ofA)
+size-A c =
+    let within = start c .pre in
+    c .size .ensures ∙ ap (λ H. partSize (part H ofA)) (clamped-same (within .sizes) (within .numbers))
+
+size-B : (c : tie.After-size2) → c .size2 .result ≡ partSize (part (start (c .before .before) .args .setting) ofB)
+size-B c =
+    let within = start (c .before .before) .pre in
+    c .size2 .ensures ∙ ap (λ H. partSize (part H ofB)) (clamped-same (within .sizes) (within .numbers))
 
 returns : tie.Need-returns
-returns c = length-A-wrong _ _ _ (c .if1 .taken)
-
-mul-if2 : tie.Need-mul-if2
-mul-if2 c = search needs
-
-cast-if2 : tie.Need-cast-if2
-cast-if2 c = search needs
+unfolding operandsReading
+returns c = sym (rw (ne-eqb _ _ (λ e. c .if1 .taken (e ∙ sym (size-A (c .before))))))
 
 returns-2 : tie.Need-returns-2
-returns-2 c = length-B-wrong _ _ _ (c .before .before .if1 .left) (c .if2 .taken)
+unfolding operandsReading
+returns-2 c =
+    sym (rw (
+      eq-eqb _ _ (c .before .before .if1 .left ∙ size-A (c .before .before .before)),
+      ne-eqb _ _ (λ e. c .if2 .taken (e ∙ sym (size-B (c .before)))),
+    ))
 
-first-beyond-requires : tie.Need-first-beyond-requires
-first-beyond-requires c κs = search needs
+-- the entries in A, then in B, where both operands have their lengths
+both-long : (c : tie.Else2) → let G = start (c .before .before .before) .args .setting in
+    (length (start (c .before .before .before) .args .a .now) ≡ partSize (part G ofA))
+    × (length (start (c .before .before .before) .args .b .now) ≡ partSize (part G ofB))
+both-long c = (c .before .before .if1 .left ∙ size-A (c .before .before .before), c .if2 .left ∙ size-B (c .before))
 
 returns-3 : tie.Need-returns-3
-returns-3 c = beyond-in-A _ _ _ (c .before .before .before .before .before .if1 .left) (c .before .before .before .if2 .left) (c .before .before .first-beyond .ensures) (c .if3 .taken)
-
-mul-first-beyond : tie.Need-mul-first-beyond
-mul-first-beyond c = search needs
-
-first-beyond-requires-2 : tie.Need-first-beyond-requires-2
-first-beyond-requires-2 c κs = search needs
+returns-3 c =
+    let found = c .before .before .first-beyond .ensures in
+    let long = both-long (c .before .before .before) in
+    found ∙ sym (in-order _ _ _ (long .0) (long .1) ∙ after-refused _ _ (λ z. c .if3 .taken (ap (λ a. a .number) found ∙ z)))
 
 returns-4 : tie.Need-returns-4
-returns-4 c = beyond-in-B _ _ _ (c .before .before .before .before .before .before .before .if1 .left) (c .before .before .before .before .before .if2 .left) (c .before .before .before .before .first-beyond .ensures) (c .before .before .if3 .left) (c .first-beyond2 .ensures)
+returns-4 c =
+    let found = c .before .before .before .first-beyond .ensures in
+    let long = both-long (c .before .before .before .before) in
+    let sized = c .before .before .before .before .before .before .before in
+    let G = start sized .args .setting in
+    let b = start sized .args .b .now in
+    c .first-beyond2 .ensures ∙ ap (λ n. firstRefusal n (length b) (operandNumber G b)) (size-A sized)
+    ∙ sym (in-order _ _ _ (long .0) (long .1) ∙ after-passed _ _ (sym (ap (λ a. a .number) found) ∙ c .before .if3 .left))
+
+first-beyond-requires-2 : tie.Need-first-beyond-requires-2
+first-beyond-requires-2 c κs =
+    let long = both-long (c .before .before .before) in
+    let size = size-A (c .before .before .before .before .before .before) in
+    let begun = start (c .before .before .before .before .before .before) in
+    omega (arith, parts-are (begun .args .setting), counts (begun .pre .sizes))
 
 pub read-spec : {M : Type 1} → statement M
 read-spec =
     tie.close
-    (tie.spec
-    mul-if1
-    cast-if1
-    returns
-    mul-if2
-    cast-if2
-    returns-2
-    first-beyond-requires
-    returns-3
-    mul-first-beyond
-    first-beyond-requires-2
-    returns-4)
+    (tie.spec (λ c κs. search needs) (λ c. search needs) returns (λ c κs. search needs) (λ c. search needs) returns-2
+    (λ c κs. search needs) returns-3 first-beyond-requires-2 returns-4)
