@@ -4,4 +4,6 @@ pub mod Operands
 pub mod Answers
 pub mod Lines
 pub mod Claims
+pub mod Entries
 pub mod Rows
+pub mod Tickets

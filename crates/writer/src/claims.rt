@@ -1,13 +1,10 @@
 // The claims: quotient and remainder of each exact sum, and their records.
-ghost use mathlib.Core.Path.{_≡_};
-ghost use Prim.Native.Nat.{_*_, _≤_};
+ghost use Prim.Native.Nat.{_≤_};
 ghost use lib.ListN.{length};
-ghost use Rattle.ticket.specs.Rules.{ticketLength, start, ofQuotients, ofRemainders};
-ghost use Rattle.writer.specs.Rules.{ticketRecord};
+ghost use Rattle.ticket.specs.Rules.{ticketLength};
 ghost use Rattle.writer.specs.Laws.Answers.{Writable};
 ghost use Rattle.writer.specs.Laws.Claims.{Lifting, Claimed};
-ghost use Rattle.writer.specs.Laws.Rows.{claimRecords, RowReady, RowWrote};
-ghost use Rattle.writer.specs.Laws.Writes.{Wrote};
+ghost use Rattle.writer.specs.Laws.Rows.{ClaimsWrote, RowReady, RowsReady, RowWrote};
 use crate::operands::narrow;
 use crate::operands::narrow_columns;
 use crate::records::COLUMN;
@@ -33,42 +30,49 @@ struct Claim {
 // The records of all claims.
 pub(crate) fn write_claims(setting: Setting, a: &[i32], b: &[i32], output: &mut [u8])
     requires { ⌜ Writable setting (now a) (now b) × (ticketLength setting ≤ length (now output)) ⌝ }
-    ensures { λ r. ⌜ Wrote (ticketRecord setting (now (a .entry)) (now (b .entry))) (claimRecords setting (setting .rows * setting .columns)) (now (output .entry)) (now (output .exit)) ⌝ }
+    ensures { λ r. ⌜ ClaimsWrote setting (now (a .entry)) (now (b .entry)) (setting .rows) (now (output .entry)) (now (output .exit)) ⌝ }
 {
+    let inner = setting.inner as usize;
+    let mut line = [0; ROW];
     if b.len() <= FEW_ENTRIES {
         let mut columns = [0; FEW_ENTRIES];
-        write_rows(setting, a, b, &mut columns, output);
+        write_rows(setting, a, b, &mut line[..inner], &mut columns, output);
         return;
     }
     let mut columns = [0; ENTRIES];
-    write_rows(setting, a, b, &mut columns, output);
+    write_rows(setting, a, b, &mut line[..inner], &mut columns, output);
 }
 
-// The same, row after row, with a list that has room for the columns of B.
-fn write_rows(setting: Setting, a: &[i32], b: &[i32], columns: &mut [i16], output: &mut [u8])
-    requires { ⌜ Writable setting (now a) (now b) × (ticketLength setting ≤ length (now output)) × (length (now b) ≤ length (now columns)) ⌝ }
-    ensures { λ r. ⌜ Wrote (ticketRecord setting (now (a .entry)) (now (b .entry))) (claimRecords setting (setting .rows * setting .columns)) (now (output .entry)) (now (output .exit)) ⌝ }
+// The same, row after row, with lists that have room for a row of A and for the columns of B.
+fn write_rows(
+    setting: Setting,
+    a: &[i32],
+    b: &[i32],
+    line: &mut [i16],
+    columns: &mut [i16],
+    output: &mut [u8],
+)
+    requires { ⌜ RowsReady setting (now a) (now b) (now line) (now columns) (now output) ⌝ }
+    ensures { λ r. ⌜ ClaimsWrote setting (now (a .entry)) (now (b .entry)) (setting .rows) (now (output .entry)) (now (output .exit)) ⌝ }
 {
     let half = setting.half();
     let lift = setting.lift() as u32;
     let height = setting.rows as u8;
-    let inner = setting.inner as usize;
     let width = setting.columns as usize;
-    narrow_columns(b, inner, width, columns);
-    let mut line = [0; ROW];
+    narrow_columns(b, setting.inner as usize, width, columns);
     let mut quotients = setting.start(PartNumber::QUOTIENTS) as usize;
     let mut remainders = setting.start(PartNumber::REMAINDERS) as usize;
     let mut from = 0;
     let mut row = 0;
     while row < height {
-        let end = from + inner;
-        narrow(&a[from..end], 1, 0, &mut line[..inner]);
+        let end = from + line.len();
+        narrow(&a[from..end], 1, 0, line);
         write_row(
             setting,
             half,
             lift,
             row,
-            &line[..inner],
+            line,
             columns,
             quotients,
             remainders,

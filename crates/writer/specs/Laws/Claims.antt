@@ -6,6 +6,7 @@
 --   quotientFor G s, remainderFor G s   the least residue of its quotient, and its remainder
 --   Claimed G s q r   q and r are these
 --   Lifting G h l     the setting's numbers pass; h is half of the quotients' range, and l is the lift
+--   lifting-of        from what a setting gives
 --   quotient-low, quotient-high, remainder-made   quotient and remainder, as the code makes them
 --   quotient-true, remainder-true   they are those of a sum that is small enough
 use Prim.Native.Nat.{ℕ, _+_, _-_, _*_, _/_, _%_, _≤_, _<_, _^_}
@@ -23,7 +24,7 @@ use Rattle.algebra.specs.Rules.{floorDivision}
 use Rattle.algebra.specs.Laws.FloorDivision.{floor-left, floor-unique}
 use Rattle.ticket.specs.declared.setting.Setting.{Setting}
 use Rattle.ticket.specs.Rules.{reach, halfRange, lift}
-use Rattle.ticket.specs.Laws.Limits.{Numbers, Fitted, half-small}
+use Rattle.ticket.specs.Laws.Limits.{Numbers, Fitted, Within, clamped, clamped-same, half-small}
 use Rattle.ticket.specs.Laws.Lifts.{Lifted, lifted-small, lifted-sum}
 use Rattle.writer.specs.Rules.{sumFor, quotientOf, remainderOf}
 
@@ -72,6 +73,16 @@ pub record Lifting (G : Setting) (half lifting : ℕ) : Type 0 where
   pub fitted : Fitted G
   pub half-is : half ≡ halfRange G
   pub lift-is : lifting ≡ lift G
+
+pub lifting-of : {G : Setting} {half lifting : ℕ} → Within G → half ≡ halfRange (clamped G) → lifting ≡ lift (clamped G) → Lifting G half lifting
+lifting-of within half-is lift-is =
+    let same = clamped-same (within .sizes) (within .numbers) in
+    record {
+      numbers = within .numbers;
+      fitted = within .fitted;
+      half-is = half-is ∙ ap halfRange same;
+      lift-is = lift-is ∙ ap lift same;
+    }
 
 module _ {G : Setting} {half lifting x : ℕ} (ready : Lifting G half lifting) (sum : ℕ) (x-is : x ≡ (sum + lifting) % 2 ^ 32) where
   x-lifted : x ≡ liftedOf G sum

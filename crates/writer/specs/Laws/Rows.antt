@@ -1,14 +1,15 @@
 -- The records of the claims, row by row, as the code writes them.
 --
---   claimRecords G n k    record k is one of the first n quotients, or of the first n remainders
 --   RowReady G h l x Y q r o   the row x and the columns Y are whole, and o has room for the claims of a row, from records q and r on
---   RowOf G A B i x Y q r   x is row i of A, Y begins with the columns of B, and q and r are where the claims of row i begin
+--   RowOf G A B i x Y q r      x is row i of A, Y begins with the columns of B, and q and r are where the claims of row i begin
 --   RowTo G i x Y q r n o o'   the first n claims of the row are written, whatever operands these are of
---   RowWrote G i x Y q r o o'   all are
---   size-A, size-B, size-sumFor   the entries and the sums of operands that are written are not too large
---   row-none, row-claim   no claim of the row is written yet, and one more
---   line-of, columns-of   a row of A and the columns of B, as they were narrowed
---   rows-more             one more row of claims is written
+--   RowWrote G i x Y q r o o'  all are
+--   row-none, row-claim        no claim of the row is written yet, and one more
+--   RowsReady G A B x Y o      A and B are to be written, and there is room for a row of A, for the columns of B and for the ticket
+--   RowsAt G i a x q r         before row i: its entries begin at a, its claims at the records q and r, and x has room for the row
+--   RowRoom G A i a x q r o    row i is inside A, and the records of its claims are inside the output
+--   ClaimsWrote G A B n o o'   the claims of the first n rows are written
+--   rows-begun, row-room, rows-none, rows-next, rows-more   before the first row, before each, and after it
 use Prim.Native.Nat.{ℕ, _+_, _-_, _*_, _^_, _≤_, _<_}
 use native.Mathlib.Omega.{arith}
 use mathlib.Core.Path.{_≡_, sym, ap, _∙_}
@@ -16,7 +17,7 @@ use mathlib.Core.Bool.{Bool}
 use mathlib.Core.Logic.{⊎-elim}
 use mathlib.Core.List.{List}
 use lib.Arith.{digits-lt, digits-div, digits-mod}
-use lib.IntN.{ℤ, pos, natAbs}
+use lib.IntN.{ℤ, pos}
 use lib.ListN.{length, getD, take, drop}
 use Rattle.residue.specs.Rules.{modulus, leastResidue}
 use Rattle.algebra.specs.Rules.{word}
@@ -27,19 +28,17 @@ use Rattle.exact.specs.Rules.{dotProduct}
 use Rattle.exact.specs.Laws.Matrices.{turnedNumber}
 use Rattle.exact.specs.Laws.Products.{dot-is}
 use Rattle.ticket.specs.declared.setting.Setting.{Setting}
-use Rattle.ticket.specs.Rules.{reach, recordBytes, part, start, ofQuotients, ofRemainders}
-use Rattle.ticket.specs.Laws.Differences.{sum-is, size-sum-of}
-use Rattle.ticket.specs.Laws.Layout.{parts-are, record-at, PartIs, part-quotients, part-remainders}
-use Rattle.ticket.specs.Laws.Limits.{Sizes, limits-of}
+use Rattle.ticket.specs.Rules.{mostRows, recordBytes, ticketLength, part, start, ofQuotients, ofRemainders}
+use Rattle.ticket.specs.Laws.Differences.{sum-is}
+use Rattle.ticket.specs.Laws.Layout.{parts-are, length-is, record-at, PartIs, part-quotients, part-remainders}
+use Rattle.ticket.specs.Laws.Limits.{Sizes, counts, clamped}
 use Rattle.writer.specs.Rules.{entryOf, sumFor, quotientOf, remainderOf, integerIn, ticketRecord}
 use Rattle.writer.specs.Laws.Answers.{Writable}
 use Rattle.writer.specs.Laws.Claims.{Lifting, Claimed, quotient-true, remainder-true}
+use Rattle.writer.specs.Laws.Entries.{limits, unclamped, long-A, size-sumFor}
 use Rattle.writer.specs.Laws.Operands.{columnOf}
 use Rattle.writer.specs.Laws.Records.{wordsOf, words-record, record-located, integer-quotient, integer-remainder}
 use Rattle.writer.specs.Laws.Writes.{Wrote, Among, Both, wrote-none, wrote-as, wrote-both, both-on}
-
-abbrev pub claimRecords : Setting → ℕ → ℕ → Type 0
-claimRecords G = Both (start G ofQuotients) (start G ofRemainders)
 
 pub record RowReady (G : Setting) (half lifting : ℕ) (line columns : List ℤ) (quotients remainders : ℕ) (output : List ℕ) : Type 0 where
   pub sizes : Sizes G
@@ -66,16 +65,6 @@ RowTo G row line columns quotients remainders n before after =
 pub record RowWrote (G : Setting) (row : ℕ) (line columns : List ℤ) (quotients remainders : ℕ) (before after : List ℕ) : Type 0 where
   pub long : length after ≡ length before
   pub wrote : RowTo G row line columns quotients remainders (G .columns) before after
-
-module _ {G : Setting} {A B : List ℤ} (w : Writable G A B) where
-  pub size-A : (i k : ℕ) → i < G .rows → k < G .inner → natAbs (entryOf (G .inner) A i k) ≤ G .bound
-  size-A i k l m = w .within-A (i * G .inner + k) (omega (arith, w .long-A, parts-are G .size-A, digits-lt l m))
-
-  pub size-B : (k j : ℕ) → k < G .inner → j < G .columns → natAbs (entryOf (G .columns) B k j) ≤ G .bound
-  size-B k j l m = w .within-B (k * G .columns + j) (omega (arith, w .long-B, parts-are G .size-B, digits-lt l m))
-
-  pub size-sumFor : (i j : ℕ) → i < G .rows → j < G .columns → natAbs (sumFor G A B i j) ≤ reach G
-  size-sumFor i j l m = size-sum-of G (entryOf (G .inner) A) (entryOf (G .columns) B) i j (λ k h. size-A i k l h) (λ k h. size-B k j h m)
 
 -- a record of the claims, by its words
 claim-record : (G : Setting) (A B : List ℤ) (w kind : ℕ) {range : ℕ → Bool} → PartIs (part G w) kind (G .rows) (G .columns) range
@@ -115,13 +104,13 @@ module _ {G : Setting} {row : ℕ} {line columns : List ℤ} {quotients remainde
   unfolding quotientOf remainderOf
   row-claim {column = column} {sum = sum} ready small m from-is so-far sum-dot claimed x-is y-is first second A B of =
       let sizes = ready .sizes in
-      let limits = limits-of G (of .writable .setting) in
+      let within = limits (of .writable) in
       let sum-exact : sum ≡ leastResidue (2 ^ 32) (sumFor G A B row column) =
       sum-dot ∙ sum-of-row of (ready .long-line) (ready .long-columns) m from-is in
       let size = size-sumFor (of .writable) row column (of .within) m in
-      let quotient = claimed .quotient-is ∙ quotient-true (limits .numbers) (limits .fitted) (sumFor G A B row column) size sum-exact
+      let quotient = claimed .quotient-is ∙ quotient-true (within .numbers) (within .fitted) (sumFor G A B row column) size sum-exact
       ∙ ap (leastResidue modulus) (sym (integer-quotient G A B row column)) in
-      let remainder = claimed .remainder-is ∙ remainder-true (limits .numbers) (limits .fitted) (sumFor G A B row column) size sum-exact
+      let remainder = claimed .remainder-is ∙ remainder-true (within .numbers) (within .fitted) (sumFor G A B row column) size sum-exact
       ∙ ap (leastResidue modulus) (sym (integer-remainder G A B row column)) in
       let few : column < 256 = omega (arith, sizes .columns) in
       both-on (so-far A B of)
@@ -129,23 +118,91 @@ module _ {G : Setting} {row : ℕ} {line columns : List ℤ} {quotients remainde
       (wrote-as first (claim-record G A B ofQuotients 3 (part-quotients G) (of .within) m (of .quotients-at) (omega arith) small few x-is quotient))
       (wrote-as second (claim-record G A B ofRemainders 4 (part-remainders G) (of .within) m (of .remainders-at) (omega arith) small few y-is remainder)))
 
--- a row of A, and the columns of B, as 16-bit numbers
+-- all rows
 
-pub line-of : (A : List ℤ) {slice line : List ℤ} (n row : ℕ) {from : ℕ} → from ≡ row * n → length slice ≡ n
-    → Filled (pos 0) slice (length slice) (columnOf (take (from + n - from) (drop from A)) 1 0) line
-    → (k : ℕ) → k < n → getD line k (pos 0) ≡ entryOf n A row k
-line-of A n row {from} from-is long filled k l =
-    let same : k * 1 + 0 ≡ k = omega arith in
-    filled .each k (omega arith) ∙ rw same (part-of A from n k (pos 0) l) ∙ rw from-is
+pub record RowsReady (G : Setting) (A B line columns : List ℤ) (output : List ℕ) : Type 0 where
+  pub writable : Writable G A B
+  pub long-line : length line ≡ G .inner
+  pub long-columns : length B ≤ length columns
+  pub long-output : ticketLength G ≤ length output
 
-pub columns-of : (B : List ℤ) {before columns : List ℤ} (m n : ℕ) → Filled (pos 0) before (n * m) (turnedNumber B m n) columns
-    → (k j : ℕ) → k < m → j < n → getD columns (j * m + k) (pos 0) ≡ entryOf n B k j
-columns-of B m n filled k j l h = filled .each (j * m + k) (digits-lt h l) ∙ rw (digits-mod j l, digits-div j l)
+pub record RowsAt (G : Setting) (row from : ℕ) (line : List ℤ) (quotients remainders : ℕ) : Type 0 where
+  pub within : row ≤ G .rows
+  pub from-is : from ≡ row * G .inner
+  pub long-line : length line ≡ G .inner
+  pub quotients-at : quotients ≡ start G ofQuotients + row * G .columns
+  pub remainders-at : remainders ≡ start G ofRemainders + row * G .columns
 
-pub rows-more : {G : Setting} {A B line columns : List ℤ} {row quotients remainders : ℕ} {before output after : List ℕ}
-    → RowOf G A B row line columns quotients remainders → Wrote (ticketRecord G A B) (claimRecords G (row * G .columns)) before output
-    → RowWrote G row line columns quotients remainders output after
-    → Wrote (ticketRecord G A B) (claimRecords G ((row + 1) * G .columns)) before after
-rows-more {G} {A} {B} {row = row} of so-far row-wrote =
-    let next : row * G .columns + G .columns ≡ (row + 1) * G .columns = omega arith in
-    rw next at (both-on so-far (rw (of .quotients-at, of .remainders-at) at (row-wrote .wrote A B of)))
+pub record RowRoom (G : Setting) (A : List ℤ) (row from : ℕ) (line : List ℤ) (quotients remainders : ℕ) (output : List ℕ) : Type 0 where
+  pub in-A : from + length line ≤ length A
+  pub few : row < mostRows
+  pub early : (quotients + G .columns < 2 ^ 16) × (remainders + G .columns < 2 ^ 16)
+  pub room-quotients : recordBytes * (quotients + G .columns) ≤ length output
+  pub room-remainders : recordBytes * (remainders + G .columns) ≤ length output
+
+abbrev pub ClaimsWrote : Setting → List ℤ → List ℤ → ℕ → List ℕ → List ℕ → Type 0
+ClaimsWrote G A B rows = Wrote (ticketRecord G A B) (Both (start G ofQuotients) (start G ofRemainders) (rows * G .columns))
+
+module _ {G : Setting} {A B line columns : List ℤ} {before : List ℕ} (ready : RowsReady G A B line columns before) where
+  pub rows-begun : {quotients remainders : ℕ} → quotients ≡ start (clamped G) ofQuotients → remainders ≡ start (clamped G) ofRemainders
+      → RowsAt G 0 0 line quotients remainders
+  rows-begun q-is r-is =
+      let same = unclamped (ready .writable) in
+      record {
+        within = omega arith;
+        from-is = omega arith;
+        long-line = ready .long-line;
+        quotients-at = q-is ∙ ap (λ H. start H ofQuotients) same ∙ omega arith;
+        remainders-at = r-is ∙ ap (λ H. start H ofRemainders) same ∙ omega arith;
+      }
+
+  pub row-room : {row from quotients remainders : ℕ} {here : List ℤ} {output : List ℕ} → RowsAt G row from here quotients remainders
+      → row < G .rows → length output ≡ length before → RowRoom G A row from here quotients remainders output
+  row-room at l same =
+      let line = row-inside (G .inner) l in
+      let claims = row-inside (G .columns) l in
+      let few = counts (limits (ready .writable) .sizes) in
+      record {
+        in-A = omega (arith, long-A (ready .writable), at);
+        few = omega (arith, few .sizes .rows);
+        early = omega (arith, parts-are G, few, at);
+        room-quotients = omega (arith, parts-are G, length-is G, at, ready .long-output);
+        room-remainders = omega (arith, parts-are G, length-is G, at, ready .long-output);
+      }
+
+pub rows-none : (G : Setting) (A B : List ℤ) {before : List ℕ} → ClaimsWrote G A B 0 before before
+rows-none G A B = wrote-none (λ k. ⊎-elim (λ a. omega (arith, a .from, a .below)) (λ a. omega (arith, a .from, a .below)))
+
+module _ {G : Setting} {row from quotients remainders : ℕ} {slice line : List ℤ} (at : RowsAt G row from slice quotients remainders)
+    (l : row < G .rows) where
+  pub rows-next : length line ≡ length slice
+      → RowsAt G (row + 1) (from + length slice) line (quotients + G .columns) (remainders + G .columns)
+  rows-next long =
+      record {
+        within = omega arith;
+        from-is = omega (arith, at .from-is, at .long-line);
+        long-line = long ∙ at .long-line;
+        quotients-at = omega (arith, at .quotients-at);
+        remainders-at = omega (arith, at .remainders-at);
+      }
+
+  -- the row of A and the columns of B, as they were narrowed
+  pub rows-more : {A B kept columns : List ℤ} {before output after : List ℕ} → Writable G A B
+      → Filled (pos 0) slice (length slice) (columnOf (take (from + length slice - from) (drop from A)) 1 0) line
+      → Filled (pos 0) kept (G .columns * G .inner) (turnedNumber B (G .inner) (G .columns)) columns
+      → ClaimsWrote G A B row before output → RowWrote G row line columns quotients remainders output after
+      → ClaimsWrote G A B (row + 1) before after
+  rows-more {A} {B} {columns = columns} writable row-filled filled so-far row-wrote =
+      let next : row * G .columns + G .columns ≡ (row + 1) * G .columns = omega arith in
+      let of : RowOf G A B row line columns quotients remainders = record {
+        writable = writable;
+        within = l;
+        line-is = λ k h.
+            let same : k * 1 + 0 ≡ k = omega arith in
+            let inside : k < length slice = omega (arith, at .long-line) in
+            row-filled .each k inside ∙ rw (same, part-of A from (length slice) k (pos 0) inside, at .from-is);
+        columns-are = λ k j h m. filled .each (j * G .inner + k) (digits-lt m h) ∙ rw (digits-mod j h, digits-div j h);
+        quotients-at = at .quotients-at;
+        remainders-at = at .remainders-at;
+      } in
+      rw next at (both-on so-far (rw (at .quotients-at, at .remainders-at) at (row-wrote .wrote A B of)))

@@ -5,126 +5,113 @@ use mathlib.Core.Path.{_≡_, sym, ap, _∙_}
 use borrow.Author.Needs.{needs}
 use lib.ListN.{length}
 use Rattle.residue.specs.Laws.Modulus.{modulus-below}
-use Rattle.algebra.specs.Laws.Positions.{row-inside}
-use Rattle.ticket.specs.declared.setting.Setting.{Setting}
-use Rattle.ticket.specs.Rules.{start, ofQuotients, ofRemainders}
-use Rattle.ticket.specs.Laws.Layout.{parts-are, length-is}
-use Rattle.ticket.specs.Laws.Limits.{Within, limits-of, clamped, clamped-same, lift-small}
-use Rattle.writer.specs.Rules.{ticketRecord}
-use Rattle.writer.specs.Laws.Rows.{claimRecords, line-of, columns-of, rows-more}
-use Rattle.writer.specs.Laws.Writes.{Wrote, wrote-none}
+use Rattle.algebra.specs.Laws.Fills.{part-long}
+use Rattle.ticket.specs.Rules.{lift}
+use Rattle.ticket.specs.Laws.Limits.{lift-small}
+use Rattle.writer.specs.Laws.Claims.{lifting-of}
+use Rattle.writer.specs.Laws.Entries.{limits, unclamped, long-B, small-A, small-B}
+use Rattle.writer.specs.Laws.Operands.{small-part}
+use Rattle.writer.specs.Laws.Rows.{RowsAt, RowRoom, ClaimsWrote, rows-begun, row-room, rows-none, rows-next, rows-more}
 use Rattle.writer.proofs.claims.write_rows.Statement.{statement}
 use Rattle.writer.proofs.claims.write_rows.Tie as tie
 
 abbrev Inv-loop : tie.InvT-loop
-Inv-loop setting a b columns output₀ half lift height inner width line₀ quotients₀ remainders₀ from₀ row₀ output line quotients remainders from row =
-    (row ≤ setting .rows) × (from ≡ row * setting .inner) × (quotients ≡ start setting ofQuotients + row * setting .columns)
-    × (remainders ≡ start setting ofRemainders + row * setting .columns)
-    × Wrote (ticketRecord setting a b) (claimRecords setting (row * setting .columns)) output₀ output
+Inv-loop setting a b line₀ columns output₀ half lift height width quotients₀ remainders₀ from₀ row₀ line output quotients remainders from row =
+    RowsAt setting row from line quotients remainders × ClaimsWrote setting a b row output₀ output
 
 abbrev μ-loop : tie.MeasureT-loop
-μ-loop setting a b columns output₀ half lift height inner width line₀ quotients₀ remainders₀ from₀ row₀ output line quotients remainders from row =
+μ-loop setting a b line₀ columns output₀ half lift height width quotients₀ remainders₀ from₀ row₀ line output quotients remainders from row =
     setting .rows - row
 
-limits : (c : tie.Start Inv-loop μ-loop) → Within (c .args .setting)
-limits c = limits-of (c .args .setting) (c .pre .0 .setting)
+-- the places before the loop: the columns are turned, the lift is there, the call begins
+abbrev turned : tie.At-loop Inv-loop μ-loop → tie.After-narrow-columns Inv-loop μ-loop
+turned c = c .before .before .before .before
 
-same : (c : tie.Start Inv-loop μ-loop) → clamped (c .args .setting) ≡ c .args .setting
-same c = clamped-same (limits c .sizes) (limits c .numbers)
+abbrev lifted : tie.After-narrow-columns Inv-loop μ-loop → tie.After-lift Inv-loop μ-loop
+lifted c = c .before .before .before .before .before
 
-half-requires : tie.Need-half-requires Inv-loop μ-loop
-half-requires c κs = search needs
+abbrev origin : tie.After-lift Inv-loop μ-loop → tie.Start Inv-loop μ-loop
+origin c = c .before .before .before
 
-lift-requires : tie.Need-lift-requires Inv-loop μ-loop
-lift-requires c κs = search needs
+abbrev begun : tie.At-loop Inv-loop μ-loop → tie.Start Inv-loop μ-loop
+begun c = origin (lifted (turned c))
+
+-- and those of a turn: the row is narrow, the turn begins
+abbrev narrowed : tie.After-write-row-arg3 Inv-loop μ-loop → tie.After-narrow Inv-loop μ-loop
+narrowed c = c .before .before .before .before
+
+abbrev turn : tie.After-narrow Inv-loop μ-loop → tie.In-loop Inv-loop μ-loop
+turn c = c .before .before .before
+
+room : (c : tie.In-loop Inv-loop μ-loop) → let at = c .before in
+    RowRoom (begun at .args .setting) (begun at .args .a .now) (at .loop .row) (at .loop .from) (at .loop .line) (at .loop .quotients)
+    (at .loop .remainders) (at .loop .output)
+room c = row-room (begun (c .before) .pre) (c .before .loop .inv .0) (c .loop-test .taken) (c .before .loop .inv .1 .long)
 
 cast-lift : tie.Need-cast-lift Inv-loop μ-loop
-cast-lift c = ?
-
-cast-height : tie.Need-cast-height Inv-loop μ-loop
-cast-height c = ?
-
-cast-inner : tie.Need-cast-inner Inv-loop μ-loop
-cast-inner c = ?
-
-cast-width : tie.Need-cast-width Inv-loop μ-loop
-cast-width c = ?
+cast-lift c =
+    let within = limits (origin c .pre .writable) in
+    let lifted = ap lift (unclamped (origin c .pre .writable)) in
+    omega (arith, c .lift .ensures, lift-small (within .numbers) (within .fitted), modulus-below)
 
 narrow-columns-requires : tie.Need-narrow-columns-requires Inv-loop μ-loop
-narrow-columns-requires c κs = ?
-
-start-requires : tie.Need-start-requires Inv-loop μ-loop
-start-requires c κs = search needs
-
-cast-quotients : tie.Need-cast-quotients Inv-loop μ-loop
-cast-quotients c = ?
-
-start-requires-2 : tie.Need-start-requires-2 Inv-loop μ-loop
-start-requires-2 c κs = search needs
-
-cast-remainders : tie.Need-cast-remainders Inv-loop μ-loop
-cast-remainders c = ?
-
-loop-holds : tie.Need-loop-holds Inv-loop μ-loop
-loop-holds c = ?
-
-add-end : tie.Need-add-end Inv-loop μ-loop
-add-end c = ?
-
-mul-narrow : tie.Need-mul-narrow Inv-loop μ-loop
-mul-narrow c = ?
-
-sub-narrow : tie.Need-sub-narrow Inv-loop μ-loop
-sub-narrow c = ?
-
-part-narrow-start : tie.Need-part-narrow-start Inv-loop μ-loop
-part-narrow-start c = ?
-
-part-narrow-end : tie.Need-part-narrow-end Inv-loop μ-loop
-part-narrow-end c = ?
-
-array-borrow-prefix-line : tie.Need-array-borrow-prefix-line Inv-loop μ-loop
-array-borrow-prefix-line c = ?
-
-slice-aggregate-narrow : tie.Need-slice-aggregate-narrow Inv-loop μ-loop
-slice-aggregate-narrow c = ?
+narrow-columns-requires c κs =
+    let pre = origin (c .before .before .before .before) .pre in
+    let long = long-B (pre .writable) in
+    record { entries = small-B (pre .writable); long = long; room = omega (arith, pre .long-columns) }
 
 narrow-requires : tie.Need-narrow-requires Inv-loop μ-loop
-narrow-requires c κs = ?
-
-array-share-prefix-line : tie.Need-array-share-prefix-line Inv-loop μ-loop
-array-share-prefix-line c = ?
-
-slice-aggregate-write-row : tie.Need-slice-aggregate-write-row Inv-loop μ-loop
-slice-aggregate-write-row c = ?
+narrow-requires c κs =
+    let inside = c .before .before in
+    let at = inside .before .loop in
+    let start = begun (inside .before) in
+    record {
+      entries = small-part (at .from) (length (at .line)) (small-A (start .pre .writable)) (room inside .in-A);
+      long = part-long (start .args .a .now) (at .from) (length (at .line)) (room inside .in-A) ∙ omega arith;
+      inside = omega arith;
+    }
 
 write-row-requires : tie.Need-write-row-requires Inv-loop μ-loop
-write-row-requires c κs = ?
-
-add-quotients : tie.Need-add-quotients Inv-loop μ-loop
-add-quotients c = ?
-
-add-remainders : tie.Need-add-remainders Inv-loop μ-loop
-add-remainders c = ?
-
-add-row : tie.Need-add-row Inv-loop μ-loop
-add-row c = ?
-
-loop-less : tie.Need-loop-less Inv-loop μ-loop
-loop-less c = ?
+write-row-requires c κs =
+    let inside = turn (narrowed c) in
+    let at = inside .before in
+    let pre = begun at .pre in
+    let columns = turned at .narrow-columns .ensures .long in
+    record {
+      sizes = limits (pre .writable) .sizes;
+      lifts = lifting-of (limits (pre .writable)) (lifted (turned at) .before .half .ensures) (lifted (turned at) .lift .ensures);
+      long-line = narrowed c .narrow .ensures .long ∙ at .loop .inv .0 .long-line;
+      long-columns = omega (arith, long-B (pre .writable), pre .long-columns);
+      room-quotients = room inside .room-quotients;
+      room-remainders = room inside .room-remainders;
+    }
 
 loop-again : tie.Need-loop-again Inv-loop μ-loop
-loop-again c = ?
-
-same-length : tie.Need-same-length Inv-loop μ-loop
-same-length c = ?
-
-same-length-2 : tie.Need-same-length-2 Inv-loop μ-loop
-same-length-2 c = ?
+loop-again c =
+    let call = c .before .before in
+    let inside = turn (narrowed (call .before)) in
+    let at = inside .before in
+    let filled = narrowed (call .before) .narrow .ensures in (
+      rows-next (at .loop .inv .0) (inside .loop-test .taken) (filled .long),
+      rows-more (at .loop .inv .0) (inside .loop-test .taken) (begun at .pre .writable) filled (turned at .narrow-columns .ensures)
+          (at .loop .inv .1) (call .write-row .ensures),
+    )
 
 returns : tie.Need-returns Inv-loop μ-loop
-returns c = ?
+returns c =
+    let all : c .before .loop .row ≡ begun (c .before) .args .setting .rows = omega (arith, c .before .loop .inv .0 .within) in
+    rw all at (c .before .loop .inv .1)
 
 pub write-rows-spec : {M : Type 1} → statement M
 write-rows-spec =
-    tie.close (tie.spec Inv-loop μ-loop half-requires lift-requires cast-lift cast-height cast-inner cast-width narrow-columns-requires start-requires cast-quotients start-requires-2 cast-remainders loop-holds add-end mul-narrow sub-narrow part-narrow-start part-narrow-end array-borrow-prefix-line slice-aggregate-narrow narrow-requires array-share-prefix-line slice-aggregate-write-row write-row-requires add-quotients add-remainders add-row loop-less loop-again same-length same-length-2 returns)
+    tie.close
+    (tie.spec Inv-loop μ-loop (λ c κs. search needs) (λ c κs. search needs) cast-lift
+    (λ c. omega (arith, limits (c .before .before .before .before .pre .writable) .sizes .rows)) (λ c. search needs) (λ c. search needs)
+    narrow-columns-requires (λ c κs. search needs) (λ c. search needs) (λ c κs. search needs) (λ c. search needs)
+    (λ c. (rows-begun (origin (lifted (c .before .before .before)) .pre) (c .before .start .ensures) (c .start2 .ensures), rows-none _ _ _))
+    (λ c. omega (arith, room c)) (λ c. omega (arith, room c)) (λ c. omega arith) (λ c. omega arith) (λ c. omega (arith, room c)) narrow-requires
+    write-row-requires (λ c. omega (arith, room (turn (narrowed (c .before .before .before)))))
+    (λ c. omega (arith, room (turn (narrowed (c .before .before .before))))) (λ c. omega (arith, room (turn (narrowed (c .before .before .before)))))
+    (λ c. omega (arith, turn (narrowed (c .before .before .before)) .loop-test .taken)) loop-again
+    (λ c. c .before .loop .inv .0 .long-line ∙ sym (begun (c .before) .pre .long-line)) (λ c. turned (c .before) .narrow-columns .ensures .long)
+    (λ c. c .before .loop .inv .1 .long) returns)

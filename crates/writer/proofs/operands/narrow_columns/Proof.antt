@@ -50,7 +50,7 @@ loop-again c =
     let height = begun .args .height in
     let filled = rw (long inside) at (c .before .narrow .ensures) in
     let same : (i : ℕ) → i < height → columnOf (begun .args .matrix .now) (begun .args .width) (at .column) i
-        ≡ turnedNumber (begun .args .matrix .now) height (begun .args .width) (at .start + i) =
+    ≡ turnedNumber (begun .args .matrix .now) height (begun .args .width) (at .start + i) =
     λ i l. sym (rw (at .inv .1, digits-mod (at .column) l, digits-div (at .column) l)) in
     let fits : at .start + height ≤ length (at .list) = omega (arith, room inside, at .inv .2 .long) in (
       omega arith,

@@ -1,0 +1,69 @@
+use Prim.Native.Nat.{_≤_, _<_}
+use native.Mathlib.Omega.{arith}
+use mathlib.Core.Path.{_≡_, sym, ap, _∙_}
+use borrow.Author.Needs.{needs}
+use lib.ListN.{length}
+use Rattle.ticket.specs.Rules.{settingTests, ticketLength, sumProducts}
+use Rattle.ticket.specs.Laws.Layout.{length-most}
+use Rattle.ticket.specs.Laws.Limits.{setting-numbered, limits-of, counts}
+use Rattle.ticket.specs.Laws.Tests.{AllHold, tests-hold}
+use Rattle.writer.specs.Laws.Answers.{Writable, output-short, writing-of, setting-refused, operands-refused, passed-operands}
+use Rattle.writer.specs.Laws.Entries.{limits, unclamped}
+use Rattle.writer.specs.Laws.Tickets.{refused, all-written}
+use Rattle.writer.proofs.write.Statement.{statement}
+use Rattle.writer.proofs.write.Tie as tie
+
+-- the call's places: it begins, the setting's number is there, the setting passes, the operands do
+abbrev start : tie.After-number → tie.Start
+start c = c .before .before
+
+abbrev numbered : tie.After-length → tie.After-number
+numbered c = c .before .before .before .before .before
+
+setting : (c : tie.Else1) → AllHold (settingTests (start (c .before) .args .setting))
+setting c = tests-hold 1 3 _ (omega arith) (setting-numbered _) (sym (c .before .number .ensures) ∙ c .if1 .left)
+
+writable : (c : tie.Else2) → let begun = start (c .before .before .before .before) in
+    Writable (begun .args .setting) (begun .args .a .now) (begun .args .b .now)
+writable c =
+    let read = c .before .before in
+    passed-operands _ _ _ (setting (read .before)) (sym (ap (λ a. a .number) (read .read .ensures)) ∙ c .if2 .left)
+
+long : (c : tie.After-length) → c .length .result ≡ ticketLength (start (numbered c) .args .setting)
+long c = c .length .ensures ∙ ap ticketLength (unclamped (writable (c .before)))
+
+returns : tie.Need-returns
+returns c =
+    let begun = start (c .before) in
+    refused _ _ _ (begun .args .output .now) (setting-refused _ _ _ _ (sym (c .before .number .ensures)) (c .if1 .taken)) (c .if1 .taken)
+
+returns-2 : tie.Need-returns-2
+returns-2 c =
+    let read = c .before .before in
+    refused _ _ _ _ (operands-refused _ _ _ _ (setting (read .before)) (sym (read .read .ensures)) (c .if2 .taken)) (c .if2 .taken)
+
+returns-3 : tie.Need-returns-3
+returns-3 c =
+    let begun = start (numbered (c .before)) in
+    let short : length (begun .args .output .now) < ticketLength (begun .args .setting) = omega (arith, c .if3 .taken, long (c .before)) in
+    refused _ _ _ (begun .args .output .now) (writing-of _ _ _ _ (output-short (writable (c .before .before)) short)) (λ z. omega arith)
+
+room : (c : tie.Else3) → ticketLength (start (numbered (c .before)) .args .setting) ≤ length (start (numbered (c .before)) .args .output .now)
+room c = omega (arith, c .if3 .left, long (c .before))
+
+write-ticket-requires : tie.Need-write-ticket-requires
+write-ticket-requires c κs = (writable (c .before .before .before), room (c .before))
+
+returns-4 : tie.Need-returns-4
+returns-4 c =
+    let call = c .before .before .before in
+    let else = call .before .before in
+    let w = writable (else .before .before) in
+    let products = c .products .ensures ∙ ap sumProducts (unclamped w) in
+    rw (long (else .before), products) (all-written _ _ _ _ w (room else) (call .write-ticket .ensures))
+
+pub write-spec : {M : Type 1} → statement M
+write-spec =
+    tie.close
+    (tie.spec (λ c κs. search needs) returns (λ c κs. limits-of _ (setting c)) returns-2 (λ c κs. search needs) returns-3
+    write-ticket-requires (λ c. omega (arith, long (c .before .before .before .before .before), length-most (counts (limits (writable (c .before .before .before .before .before .before)) .sizes)))) (λ c κs. search needs) (λ c. search needs) returns-4)
