@@ -10,16 +10,19 @@
 --   quotient-low, quotient-high, remainder-made   quotient and remainder, as the code makes them
 --   quotient-true, remainder-true   they are those of a sum that is small enough
 use Prim.Native.Nat.{ℕ, _+_, _-_, _*_, _/_, _%_, _≤_, _<_, _^_}
-use native.Mathlib.Nat.{div-add-mod, div-le-self, mod-eq-of-lt, mod-lt}
+use native.Mathlib.Nat.{div-add-mod, div-le-self, mod-lt}
+use native.Mathlib.Decide.{decLt}
 use native.Mathlib.Omega.{arith}
 use mathlib.Core.Path.{_≡_, sym, ap, _∙_}
+use mathlib.Core.Bool.{cond}
 use mathlib.Core.List.{List}
+use borrow.Author.Tests.{lt-ltb, le-ltb}
+use lib.Dec.{ltb}
 use lib.IntN.{ℤ, pos, natAbs, _+ℤ_, _-ℤ_, _*ℤ_, +ℤ-comm, -ℤ-+ℤ-cancel}
 use Rattle.residue.specs.Rules.{modulus, leastResidue}
 use Rattle.residue.specs.Laws.Integers.{positive, negative, equal-of-parts, parts-sum, parts-difference, parts-product}
-use Rattle.residue.specs.Laws.Modulo.{sumOnce, sum-once, sum-once-low, sum-once-high}
 use Rattle.residue.specs.Laws.Modulus.{modulus-above, modulus-positive}
-use Rattle.residue.specs.Laws.Residues.{residue-of-residue, residue-of-natural, residue-lifted}
+use Rattle.residue.specs.Laws.Residues.{residue-of-residue, residue-shift}
 use Rattle.algebra.specs.Rules.{floorDivision}
 use Rattle.algebra.specs.Laws.FloorDivision.{floor-left, floor-unique}
 use Rattle.ticket.specs.declared.setting.Setting.{Setting}
@@ -59,7 +62,8 @@ abbrev pub liftedOf : Setting → ℕ → ℕ
 liftedOf G sum = (sum + lift G) % 2 ^ 32
 
 unfoldable pub quotientFor : Setting → ℕ → ℕ
-quotientFor G sum = sumOnce modulus (liftedOf G sum / G .scale) (modulus - halfRange G)
+quotientFor G sum =
+    let x = liftedOf G sum / G .scale in cond (ltb x (halfRange G)) (x + (modulus - halfRange G)) (x - halfRange G)
 
 unfoldable pub remainderFor : Setting → ℕ → ℕ
 remainderFor G sum = liftedOf G sum % G .scale
@@ -95,16 +99,13 @@ module _ {G : Setting} {half lifting x : ℕ} (ready : Lifting G half lifting) (
   pub half-low : half ≤ 2 ^ 29
   half-low = omega (arith, half-small (ready .numbers), ready .half-is)
 
-  quotient-made : {q : ℕ} → sumOnce modulus (x / G .scale) (modulus - half) ≡ q → q ≡ quotientFor G sum
-  unfolding quotientFor
-  quotient-made e = sym e ∙ rw (x-lifted, ready .half-is)
-
   pub quotient-low : {p : ℕ} → p ≡ modulus → x / G .scale < half → x / G .scale + (p - half) ≡ quotientFor G sum
-  quotient-low p-is l = rw p-is (quotient-made (sum-once-low modulus (x / G .scale) (modulus - half) (omega (arith, half-low, modulus-above))))
+  unfolding quotientFor
+  quotient-low p-is l = sym (rw (← x-lifted, ← ready .half-is, lt-ltb (x / G .scale) half l, p-is))
 
   pub quotient-high : half ≤ x / G .scale → x / G .scale - half ≡ quotientFor G sum
-  quotient-high l =
-      quotient-made (sum-once-high modulus (x / G .scale) (modulus - half) (omega (arith, half-low, modulus-above)) ∙ omega (arith, half-low, modulus-above))
+  unfolding quotientFor
+  quotient-high l = sym (rw (← x-lifted, ← ready .half-is, le-ltb (x / G .scale) half l))
 
 -- the claim that a small sum makes
 
@@ -147,12 +148,18 @@ module _ {G : Setting} (numbers : Numbers G) (fitted : Fitted G) (S : ℤ) (smal
       let half = halfRange G in
       let room : half < modulus = omega (arith, half-small {G = G} numbers, modulus-above) in
       let below : x < modulus = omega (arith, lifted-small numbers fitted S small lifted, div-le-self (liftedOf G sum) (G .scale)) in
-      let reduced : half % modulus ≡ half = mod-eq-of-lt room in
-      let same : x + (modulus - half) ≡ x + modulus - half = omega arith in
-      sum-once modulus x (modulus - half) below (omega arith)
-      ∙ sym (residue-of-natural modulus modulus-positive (x + (modulus - half)))
-      ∙ ap (λ n. leastResidue modulus (pos n)) same
-      ∙ (rw reduced at (residue-lifted modulus modulus-positive x half))
+      let parts = parts-difference (pos x) (pos half) in
+      elim (decLt x half) [
+        | yes l ↦
+            rw (lt-ltb x half l)
+            (sym (residue-shift modulus modulus-positive shifted (pos (x + (modulus - half))) 1 0 (omega arith)
+            ∙ residue-of-residue modulus modulus-positive (x + (modulus - half)) (omega arith)))
+        | no l ↦
+            let most : half ≤ x = omega arith in
+            rw (le-ltb x half most)
+            (sym (ap (leastResidue modulus) (equal-of-parts shifted (pos (x - half)) (omega arith))
+            ∙ residue-of-residue modulus modulus-positive (x - half) (omega arith)))
+      ]
       ∙ ap (leastResidue modulus) quotient
 
   pub remainder-true : remainderFor G sum ≡ leastResidue modulus (S -ℤ pos (G .scale) *ℤ floorDivision S (G .scale))

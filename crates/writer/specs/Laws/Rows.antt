@@ -29,7 +29,7 @@ use Rattle.exact.specs.Laws.Matrices.{turnedNumber}
 use Rattle.exact.specs.Laws.Products.{dot-is}
 use Rattle.ticket.specs.declared.setting.Setting.{Setting}
 use Rattle.ticket.specs.Rules.{mostRows, recordBytes, ticketLength, part, start, ofQuotients, ofRemainders}
-use Rattle.ticket.specs.Laws.Differences.{sum-is}
+use Rattle.ticket.specs.Laws.Differences.{exactSum-is}
 use Rattle.ticket.specs.Laws.Layout.{parts-are, length-is, record-at, PartIs, part-quotients, part-remainders}
 use Rattle.ticket.specs.Laws.Limits.{Sizes, counts, clamped}
 use Rattle.writer.specs.Rules.{entryOf, sumFor, quotientOf, remainderOf, integerIn, ticketRecord}
@@ -88,7 +88,7 @@ module _ {G : Setting} {row : ℕ} {line columns : List ℤ} {quotients remainde
       dot-is n line (take (from + length line - from) (drop from columns)) (entryOf n A row) (λ k. entryOf (G .columns) B k column)
       long-line (rw long-line (part-long columns from n (omega arith))) (of .line-is)
       (λ k l. rw long-line (part-of columns from n k (pos 0) l ∙ rw from-is (of .columns-are k column l m)))
-      ∙ ap (leastResidue (2 ^ 32)) (sym (sum-is G (entryOf n A) (entryOf (G .columns) B) row column
+      ∙ ap (leastResidue (2 ^ 32)) (sym (exactSum-is G (entryOf n A) (entryOf (G .columns) B) row column
       ∙ matrixProduct-is n (entryOf n A) (entryOf (G .columns) B) row column))
 
   pub row-none : {before : List ℕ} → RowTo G row line columns quotients remainders 0 before before
