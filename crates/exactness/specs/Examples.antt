@@ -6,14 +6,13 @@ use mathlib.Core.List.{List, [], _∷_, _++_, map}
 use lib.IntN.{ℤ, pos, negℤ}
 use lib.ListN.{take, drop}
 use Rattle.residue.specs.Rules.{modulus, leastResidue, signedEntry}
-use Rattle.algebra.specs.Rules.{sumℤ, floorDivision}
+use Rattle.algebra.specs.Rules.{sumℤ, matrixProduct, floorDivision}
 use Rattle.ticket.specs.declared.setting.Setting.{Setting}
 use Rattle.ticket.specs.declared.Answer.{Answer}
-use Rattle.ticket.specs.Rules.{first, sizesWithin, numbersWithin, fits, settingNumber, isEntry, shiftedQuotient, partA, partB, quotients, remainders, records, recordBytes, ticketLength, partOf, bytesOf, valueAt, formed, numberOf, partNumber, recordNumber, firstRefusal, after, recordsReading, reading, valueIn, entryA, entryB, quotient, remainder, claim, exactSum}
-use Rattle.challenge.specs.Rules.{listNumber, listReading, productB, claimSide, operandSide, balanced, firstRow, firstVector, verdict, challengeCheck}
+use Rattle.ticket.specs.Rules.{first, answer, scan, after, firstFailed, sizesWithin, numbersWithin, fits, settingTests, settingNumber, isEntry, shiftedQuotient, parts, part, count, start, records, recordBytes, ticketLength, holder, valueAt, formed, partTests, recordTests, firstRefusal, recordsReading, reading, valueIn, entryA, entryB, quotient, remainder, claim, exactSum, due}
+use Rattle.challenge.specs.Rules.{listNumber, listReading, productB, claimSide, operandSide, balanced, firstRow, verdict, challengeCheck}
 use Rattle.full.specs.Rules.{same, holds, fullVerdict, fullCheck}
-use Rattle.writer.specs.Rules.{joined, operandNumber, operandsReading, writing, sumOf, quotientOf, remainderOf, recordOf, recordsOf, ticketOf}
-use Rattle.soundness.specs.Laws.Answers.{answer}
+use Rattle.writer.specs.Rules.{joined, operandNumber, operandsReading, writing, quotientOf, remainderOf, integersOf, integerIn, recordOf, ticketRecord, ticketOf}
 
 minus : ℕ → ℤ
 minus n = negℤ (pos n)
@@ -27,19 +26,19 @@ record Case : Type 0 where
   remainder : List ℤ
 
 -- the records of a part from record i on
-partBytes : ℕ → ℕ → ℕ → List ℤ → List ℕ
-partBytes kind columns i [] = []
-partBytes kind columns i (z ∷ rest) =
+recordsFrom : ℕ → ℕ → ℕ → List ℤ → List ℕ
+recordsFrom kind columns i [] = []
+recordsFrom kind columns i (z ∷ rest) =
     let value = leastResidue modulus z in
     kind ∷ 0 ∷ i / columns ∷ i % columns ∷ value % 256 ∷ value / 256 % 256 ∷ value / 65_536 % 256 ∷ value / 16_777_216
-    ∷ partBytes kind columns (i + 1) rest
+    ∷ recordsFrom kind columns (i + 1) rest
 
 ticket : Case → List ℕ
 ticket c =
-    partBytes 1 (c .setting .inner) 0 (c .A)
-    ++ partBytes 2 (c .setting .columns) 0 (c .B)
-    ++ partBytes 3 (c .setting .columns) 0 (c .quotient)
-    ++ partBytes 4 (c .setting .columns) 0 (c .remainder)
+    recordsFrom 1 (c .setting .inner) 0 (c .A)
+    ++ recordsFrom 2 (c .setting .columns) 0 (c .B)
+    ++ recordsFrom 3 (c .setting .columns) 0 (c .quotient)
+    ++ recordsFrom 4 (c .setting .columns) 0 (c .remainder)
 
 -- the setting K, but for the inner size, the scale, the bound and the width
 setting : ℕ → ℕ → ℕ → ℕ → Setting
@@ -66,11 +65,14 @@ changed q q' = claiming 8 (q ∷ q' ∷ pos 2 ∷ minus 1 ∷ []) trueRemainders
 trueCase : Case
 trueCase = changed (minus 2) (pos 3)
 
--- each with what is expected last: the sums S; what the claims put for them; quotients and remainders, as read; the bytes of a
+-- each with what is expected last: where the parts of a ticket start, and which part each of some records is in; the sums S, with which
+-- the claims are compared; what the claims put for them; quotients and remainders, as read; the bytes of a
 -- record; u, for a vector, as signed entries; the two sides, for a vector; the answer of the reading and range checks; the answer
 -- of the challenge check; that of the full check; that of the writer for an output of 128 bytes, and the ticket; the number of a
 -- setting; an integer over a number, rounded down
 data Example : Type 0 where
+  starts : Setting → List ℕ → Example
+  held : Setting → List ℕ → List ℕ → Example
   sums : Case → List ℤ → Example
   claims : Case → List ℤ → Example
   read : Case → List ℤ → List ℤ → Example
@@ -107,8 +109,11 @@ writtenBytes =
 
 examples : List Example
 examples =
+    -- the layout under K: A, B, the quotients, the remainders, and past them
+    starts (setting 2 10 8 5) (0 ∷ 4 ∷ 8 ∷ 12 ∷ 16 ∷ [])
+    ∷ held (setting 2 10 8 5) (0 ∷ 3 ∷ 4 ∷ 8 ∷ 12 ∷ 15 ∷ []) (0 ∷ 0 ∷ 1 ∷ 2 ∷ 3 ∷ 3 ∷ [])
     -- a
-    sums trueCase (minus 17 ∷ pos 34 ∷ pos 23 ∷ minus 2 ∷ [])
+    ∷ sums trueCase (minus 17 ∷ pos 34 ∷ pos 23 ∷ minus 2 ∷ [])
     -- b
     ∷ claims trueCase (minus 17 ∷ pos 34 ∷ pos 23 ∷ minus 2 ∷ [])
     ∷ read trueCase (minus 2 ∷ pos 3 ∷ pos 2 ∷ minus 1 ∷ []) (pos 3 ∷ pos 4 ∷ pos 3 ∷ pos 8 ∷ [])
@@ -149,7 +154,9 @@ each : (ℕ → ℕ → ℤ) → List ℤ
 each f = f 0 0 ∷ f 0 1 ∷ f 1 0 ∷ f 1 1 ∷ []
 
 by-rules : Example → Example
-by-rules (sums c _) = sums c (each (exactSum (c .setting) (ticket c)))
+by-rules (starts G _) = starts G (map (start G) (0 ∷ 1 ∷ 2 ∷ 3 ∷ 4 ∷ []))
+by-rules (held G ks _) = held G ks (map (holder (parts G)) ks)
+by-rules (sums c _) = sums c (each (due (c .setting) (ticket c)))
 by-rules (claims c _) = claims c (each (claim (c .setting) (ticket c)))
 by-rules (read c _ _) = read c (each (quotient (c .setting) (ticket c))) (each (remainder (c .setting) (ticket c)))
 by-rules (bytes c k _) = bytes c k (take recordBytes (drop (recordBytes * k) (ticket c)))
@@ -164,10 +171,10 @@ by-rules (limits G _) = limits G (settingNumber G)
 by-rules (floors z d _) = floors z d (floorDivision z d)
 
 examples-hold : map by-rules examples ≡ examples
-unfolding modulus leastResidue signedEntry sumℤ floorDivision first sizesWithin numbersWithin fits settingNumber isEntry shiftedQuotient partA
-    partB quotients remainders records ticketLength partOf bytesOf valueAt formed numberOf partNumber recordNumber
-    firstRefusal after recordsReading reading valueIn entryA entryB quotient remainder claim exactSum listNumber listReading
-    productB claimSide operandSide balanced firstRow firstVector verdict challengeCheck same holds fullVerdict fullCheck joined
-    operandNumber operandsReading writing sumOf quotientOf remainderOf recordOf recordsOf ticketOf minus partBytes ticket setting
-    claiming trueRemainders trueCase changed writtenBytes examples each by-rules
+unfolding modulus leastResidue signedEntry sumℤ matrixProduct floorDivision first scan after firstFailed sizesWithin numbersWithin fits
+    settingTests isEntry shiftedQuotient parts part count start records ticketLength holder valueAt formed partTests recordTests firstRefusal
+    recordsReading reading valueIn entryA entryB quotient remainder claim exactSum due listNumber listReading productB claimSide operandSide
+    balanced firstRow verdict challengeCheck same holds fullVerdict fullCheck joined operandNumber operandsReading writing quotientOf
+    remainderOf integersOf integerIn recordOf ticketRecord ticketOf minus recordsFrom ticket setting claiming trueRemainders trueCase changed
+    writtenBytes examples each by-rules
 examples-hold = refl

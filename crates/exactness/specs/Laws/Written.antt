@@ -1,8 +1,7 @@
 -- The written ticket is accepted by the full check and, with every well-formed list, by the challenge check (W3), and is the only
 -- ticket of its operands that the full check accepts (W4).
 --
---   size-sumOf               an exact sum is at most m · T² in size
---   size-quotientOf          its quotient is at least -2^(v - 1) and below 2^(v - 1)
+--   size-quotientOf          the quotient of an exact sum is at least -2^(v - 1) and below 2^(v - 1)
 --   in-range                 the least residue of what a record stands for is in the range of its part
 --   ticket-passes            the written ticket passes the reading and range checks
 --   written-A, written-B, written-quotient, written-remainder, written-sum   what its records stand for, and their exact sums
@@ -10,46 +9,44 @@
 --   written-accepted         the full check accepts it (W3)
 --   written-challenge-accepted   with it a list is accepted exactly when it is well formed (W3)
 --   only-ticket              a ticket of the same A and B that the full check accepts is equal to it, byte for byte (W4)
-use Prim.Native.Nat.{ℕ, suc, _+_, _-_, _*_, _/_, _%_, _^_, _≤_, _<_}
-use native.Mathlib.Nat.{mul-le-mul, mul-le-mul-left, mod-lt, div-add-mod}
+use Prim.Native.Nat.{ℕ, zero, suc, _+_, _-_, _*_, _/_, _%_, _^_, _≤_, _<_}
+use native.Mathlib.Nat.{mul-le-mul-left, mod-lt, div-add-mod}
 use native.Mathlib.Decide.{decLe}
 use native.Mathlib.Omega.{arith}
 use mathlib.Core.Path.{_≡_, refl, sym, ap, _∙_}
 use mathlib.Core.Logic.{_↔_}
 use mathlib.Core.Bool.{true}
 use mathlib.Core.List.{List}
-use borrow.Author.Tests.{le-leb, lt-ltb, eq-eqb}
-use lib.Arith.{digits-lt}
-use lib.Dec.{eqb}
+use borrow.Author.Tests.{le-leb, lt-ltb}
+use lib.Dec.{leb}
 use lib.IntN.{ℤ, pos, negsuc, natAbs, _+ℤ_, _-ℤ_, _*ℤ_, +ℤ-comm, +ℤ-negℤ-cancel}
 use lib.ListN.{length, getD}
-use lib.Seq.{ext-getD, getD-drop}
-use Rattle.residue.specs.Rules.{modulus, leastResidue, signedEntry, powerOfTwo}
-use Rattle.residue.specs.Laws.Integers.{positive, negative, equal-of-parts, parts-sum, parts-difference, parts-product}
-use Rattle.residue.specs.Laws.Modulus.{modulus-is, modulus-positive}
-use Rattle.residue.specs.Laws.Residues.{residue-below, residue-sum, residue-of-residue, entry-of-residue}
+use lib.Seq.{ext-getD}
+use Rattle.residue.specs.Rules.{modulus, leastResidue, signedEntry}
+use Rattle.residue.specs.Laws.Integers.{positive, negative, equal-of-parts, parts-sum, parts-product, parts-within}
+use Rattle.residue.specs.Laws.Modulus.{modulus-above, modulus-positive}
+use Rattle.residue.specs.Laws.Residues.{residue-below, residue-sum, residue-of-residue, residue-close, entry-of-residue}
 use Rattle.algebra.specs.Rules.{floorDivision}
-use Rattle.algebra.specs.Laws.IntegerSums.{sumℤ-bound, sumℤ-cong, size-product}
 use Rattle.algebra.specs.Laws.FloorDivision.{floor-left, floor-unique}
+use Rattle.algebra.specs.Laws.IntegerSums.{size-difference}
+use Rattle.algebra.specs.Laws.MatrixProducts.{matrixProduct-cong}
 use Rattle.ticket.specs.declared.setting.Setting.{Setting}
-use Rattle.ticket.specs.Rules.{Part, partA, partB, quotients, remainders, isEntry, shiftedQuotient, records, ticketLength, numberOf, partNumber, recordNumber, recordsReading, reading, refusal, firstRefusal, settingNumber, Passes, FalseIn, recordBytes, bytesOf, valueAt, valueIn, entryA, entryB, quotient, remainder, claim, exactSum}
-use Rattle.ticket.specs.Laws.Answers.{unless-zero, after-zero, scan-zero}
-use Rattle.ticket.specs.Laws.Limits.{Sizes, Numbers, Fitted, Half, half-of, passed-setting}
-use Rattle.ticket.specs.Laws.Passes.{Passed, passed-of, number-zero}
-use Rattle.ticket.specs.Laws.Differences.{small-remainder, residue-entryA, residue-entryB, residue-quotient, residue-remainder, claims-true}
-use Rattle.ticket.specs.Laws.Layout.{Name, nameA, nameB, nameQuotients, nameRemainders, partNamed, located-at}
+use Rattle.ticket.specs.Rules.{reach, halfRange, lift, parts, part, start, records, recordBytes, ofA, ofB, ofQuotients, ofRemainders, recordTests, Passes, FalseIn, byteAt, valueAt, valueIn, entryA, entryB, quotient, remainder, exactSum, due}
+use Rattle.ticket.specs.Laws.Differences.{claim-is, due-is, exactSum-is, size-entryA, size-entryB, size-quotient, small-remainder, residue-entryA, residue-entryB, residue-quotient, residue-remainder, claims-true}
+use Rattle.ticket.specs.Laws.Layout.{located-at, tests-located, value-in, part-A, part-B, part-quotients, part-remainders, every-part}
+use Rattle.ticket.specs.Laws.Limits.{counts, half-small, half-double, lift-small}
+use Rattle.ticket.specs.Laws.Passes.{Passed, passed-of, passes-of, record-formed}
+use Rattle.ticket.specs.Laws.Tests.{AllHold, none, one}
 use Rattle.challenge.specs.Rules.{Accepted, WellFormed}
 use Rattle.soundness.specs.Laws.Demands.{accepted-exactly-well-formed}
 use Rattle.full.specs.Rules.{fullCheck, fullAccepted, FullAccepted}
-use Rattle.writer.specs.Rules.{writing, entryOf, sumOf, quotientOf, remainderOf, recordOf, ticketOf}
-use Rattle.writer.specs.Laws.Records.{record-read, record-of-ticket, integersOf, length-ticketOf, formed-of-ticket, value-of-ticket, value-in-ticket}
+use Rattle.writer.specs.Rules.{writing, entryOf, sumFor, quotientOf, remainderOf, recordOf, integerIn, ticketOf}
+use Rattle.writer.specs.Laws.Answers.{Writable}
 use Rattle.writer.specs.Laws.Claims.{claim-sum, remainder-left}
+use Rattle.writer.specs.Laws.Entries.{limits, size-A, size-B, size-sumFor}
+use Rattle.writer.specs.Laws.Records.{record-read, length-records, length-ticketOf, ticket-record-at, ticket-formed, ticket-value, value-in-ticket, integer-A, integer-B, integer-quotient, integer-remainder}
 use Rattle.exactness.specs.Laws.Full.{full-accepted-true, full-accepted-number}
-use Rattle.exactness.specs.Laws.Writer.{Writable, writable-of}
-
-parts-within : (z : ℤ) (c : ℕ) → natAbs z ≤ c → (positive z ≤ c) × (negative z ≤ c)
-parts-within (pos n) c l = (l, omega arith)
-parts-within (negsuc n) c l = (omega arith, l)
+use Rattle.exactness.specs.Laws.Writer.{writable-of}
 
 -- the quotient of a sum of size up to c, where c and the scale fit
 module _ (d half c : ℕ) (above : 2 ≤ d) (fit : c + d - 1 ≤ half * d) where
@@ -80,158 +77,132 @@ module _ (d half c : ℕ) (above : 2 ≤ d) (fit : c + d - 1 ≤ half * d) where
             ))
       ]
 
-  floor-within : (S : ℤ) → natAbs S ≤ c → (negative (floorDivision S d) ≤ half) × (positive (floorDivision S d) < half)
-  floor-within S size =
-      let h = floor-left S d (omega arith) in
-      quotient-within S (floorDivision S d) (h .0) size (h .1) (h .2)
+-- two integers that are small enough are equal where their least residues are
+equal-small : {x y : ℤ} (c : ℕ) → natAbs x ≤ c → natAbs y ≤ c → 2 * c < modulus → leastResidue modulus x ≡ leastResidue modulus y → x ≡ y
+equal-small {x} {y} c small-x small-y room e = residue-close modulus modulus-positive x y (omega (arith, size-difference x y)) e
 
--- a number shifted by half of a range, modulo p
-shifted-residue : (z : ℤ) (half m : ℕ) → half < modulus → m < modulus → positive z + half ≡ m + negative z
-    → (leastResidue modulus z + half) % modulus ≡ m
-shifted-residue z half m small below e =
-    ap (λ n. (leastResidue modulus z + n) % modulus) (sym (residue-of-residue modulus modulus-positive half small))
-    ∙ sym (residue-sum modulus modulus-positive z (pos half))
-    ∙ ap (leastResidue modulus) (equal-of-parts (z +ℤ pos half) (pos m) (omega (arith, parts-sum z (pos half))))
-    ∙ residue-of-residue modulus modulus-positive m below
+size-of-parts : (z : ℤ) {c : ℕ} → (negative z ≤ c) × (positive z < c) → natAbs z ≤ c
+size-of-parts (pos n) h = omega arith
+size-of-parts (negsuc n) h = omega arith
+
+-- equal entries have equal sums
+same-sums : (G : Setting) (A A' B B' : ℕ → ℕ → ℤ) (i j : ℕ) → ((k : ℕ) → k < G .inner → A i k ≡ A' i k)
+    → ((k : ℕ) → k < G .inner → B k j ≡ B' k j) → exactSum G A B i j ≡ exactSum G A' B' i j
+same-sums G A A' B B' i j row column =
+    exactSum-is G A B i j ∙ matrixProduct-cong (G .inner) A A' B B' i j row column ∙ sym (exactSum-is G A' B' i j)
 
 module _ {G : Setting} {A B : List ℤ} (w : Writable G A B) where
-  sizes : Sizes G
-  sizes = passed-setting G (w .setting) .0
-
-  numbers : Numbers G
-  numbers = passed-setting G (w .setting) .1
-
-  fitted : Fitted G
-  fitted = passed-setting G (w .setting) .2
-
-  half-width : Half G (powerOfTwo (G .width - 1))
-  half-width = half-of numbers refl
-
-  size-A : (i k : ℕ) → i < G .rows → k < G .inner → natAbs (entryOf (G .inner) A i k) ≤ G .bound
-  size-A i k l m = w .within-A (i * G .inner + k) (rw (w .long-A) (digits-lt l m))
-
-  size-B : (k j : ℕ) → k < G .inner → j < G .columns → natAbs (entryOf (G .columns) B k j) ≤ G .bound
-  size-B k j l m = w .within-B (k * G .columns + j) (rw (w .long-B) (digits-lt l m))
-
   module _ (i j : ℕ) (l : i < G .rows) (m : j < G .columns) where
-    pub size-sumOf : natAbs (sumOf G A B i j) ≤ G .inner * (G .bound * G .bound)
-    unfolding sumOf
-    size-sumOf =
-        sumℤ-bound (G .inner) (G .bound * G .bound) _
-        (λ k h. rw (size-product (entryOf (G .inner) A i k) (entryOf (G .columns) B k j))
-        (mul-le-mul (size-A i k l h) (size-B k j h m)))
-
-    pub size-quotientOf : let q = quotientOf G A B i j in
-        (negative q ≤ 2 ^ (G .width - 1)) × (positive q < 2 ^ (G .width - 1))
+    pub size-quotientOf : let q = quotientOf G A B i j in (negative q ≤ halfRange G) × (positive q < halfRange G)
     unfolding quotientOf
     size-quotientOf =
-        floor-within (G .scale) (2 ^ (G .width - 1)) _ (numbers .scale .0) (fitted .sums) (sumOf G A B i j) size-sumOf
+        let S = sumFor G A B i j in
+        let h = floor-left S (G .scale) (omega (arith, limits w .numbers .scale)) in
+        quotient-within (G .scale) (halfRange G) (reach G) (limits w .numbers .scale .0) (limits w .fitted .sums) S (floorDivision S (G .scale))
+        (h .0) (size-sumFor w i j l m) (h .1) (h .2)
 
     left : (r : ℕ) × (r < G .scale) × (remainderOf G A B i j ≡ pos r)
-    left = remainder-left G A B i j (omega (arith, numbers .scale))
+    left = remainder-left G A B i j (omega (arith, limits w .numbers .scale))
 
-    shifted-is : let q = quotientOf G A B i j in
-        shiftedQuotient (G .width) (leastResidue modulus q) ≡ positive q + 2 ^ (G .width - 1) - negative q
-    unfolding shiftedQuotient
+    -- shifted by half of the quotients' range
+    shifted-is : let q = quotientOf G A B i j in (leastResidue modulus q + halfRange G) % modulus ≡ positive q + halfRange G - negative q
     shifted-is =
         let q = quotientOf G A B i j in
-        let half = 2 ^ (G .width - 1) in
-        let room : 2 * half < modulus = omega (arith, half-width, modulus-is) in
-        shifted-residue q half (positive q + half - negative q)
-        (omega arith) (omega (arith, size-quotientOf)) (omega (arith, size-quotientOf))
+        let half = halfRange G in
+        let m = positive q + half - negative q in
+        let room : 2 * half < modulus = omega (arith, half-small {G = G} (limits w .numbers), modulus-above) in
+        ap (λ n. (leastResidue modulus q + n) % modulus) (sym (residue-of-residue modulus modulus-positive half (omega arith)))
+        ∙ sym (residue-sum modulus modulus-positive q (pos half))
+        ∙ ap (leastResidue modulus) (equal-of-parts (q +ℤ pos half) (pos m) (omega (arith, parts-sum q (pos half), size-quotientOf)))
+        ∙ residue-of-residue modulus modulus-positive m (omega (arith, size-quotientOf))
+
+  small : 2 * G .bound < modulus
+  small = omega (arith, limits w .numbers .bound, modulus-above)
 
   -- an operand is the signed entry of its least residue
-  entry-kept : (z : ℤ) → natAbs z ≤ G .bound → signedEntry modulus (leastResidue modulus z) ≡ z
-  entry-kept z l = entry-of-residue modulus modulus-positive z (omega (arith, numbers .bound, modulus-is))
+  entry-range : (z : ℤ) → natAbs z ≤ G .bound → leb (natAbs (signedEntry modulus (leastResidue modulus z))) (G .bound) ≡ true
+  entry-range z l = rw (entry-of-residue modulus modulus-positive z (omega (arith, small))) (le-leb (natAbs z) (G .bound) l)
 
-  remainder-kept : (r : ℕ) → r < G .scale → leastResidue modulus (pos r) ≡ r
-  remainder-kept r l = residue-of-residue modulus modulus-positive r (omega (arith, numbers .scale, modulus-is))
+  pub in-range : (n i j : ℕ) → n < length (parts G) → i < part G n .rows → j < part G n .columns
+      → part G n .range (leastResidue modulus (integerIn G A B n i j)) ≡ true
+  in-range =
+      every-part G (λ n i j. part G n .range (leastResidue modulus (integerIn G A B n i j)) ≡ true)
+      (λ i j l m. part-A G .range-is _ ∙ rw (integer-A G A B i j) (entry-range _ (size-A w i j l m)))
+      (λ i j l m. part-B G .range-is _ ∙ rw (integer-B G A B i j) (entry-range _ (size-B w i j l m)))
+      (λ i j l m. let q = quotientOf G A B i j in
+      part-quotients G .range-is _ ∙ rw (integer-quotient G A B i j, shifted-is i j l m)
+      (lt-ltb (positive q + halfRange G - negative q) (2 ^ G .width)
+      (omega (arith, size-quotientOf i j l m, half-double {G = G} (limits w .numbers)))))
+      (λ i j l m. let h = left i j l m in
+      let kept = residue-of-residue modulus modulus-positive (h .0) (omega (arith, h .1, limits w .numbers .scale, modulus-above)) in
+      part-remainders G .range-is _ ∙ rw (integer-remainder G A B i j, h .2, kept) (lt-ltb _ _ (h .1)))
 
-  pub in-range : (n : Name) (i j : ℕ) → i < partNamed G n .rows → j < partNamed G n .columns
-      → partNamed G n .range (leastResidue modulus (integersOf G A B n i j)) ≡ true
-  unfolding partA partB quotients remainders isEntry
-  in-range nameA i j l m = rw (entry-kept (entryOf (G .inner) A i j) (size-A i j l m)) (le-leb _ _ (size-A i j l m))
-  in-range nameB i j l m = rw (entry-kept (entryOf (G .columns) B i j) (size-B i j l m)) (le-leb _ _ (size-B i j l m))
-  in-range nameQuotients i j l m =
-      let q = quotientOf G A B i j in
-      rw (shifted-is i j l m)
-      (lt-ltb (positive q + 2 ^ (G .width - 1) - negative q) (2 ^ G .width)
-      (omega (arith, size-quotientOf i j l m, half-width)))
-  in-range nameRemainders i j l m =
-      let h = left i j l m in
-      rw (h .2, remainder-kept (h .0) (h .1)) (lt-ltb _ _ (h .1))
-
-  -- every record of the ticket passes
-  record-passes : (k : ℕ) → k < records G → recordNumber G (ticketOf G A B) k ≡ 0
-  unfolding recordNumber partNumber numberOf
-  record-passes k l =
-      let at = located-at G sizes k l in
-      let n = at .0 in
-      let P = partNamed G n in
-      let i = k - P .start in
-      let index : i ≡ i / P .columns * P .columns + i % P .columns = omega (arith, at .1 .place) in
-      let inside : i < P .rows * P .columns = rw (sym index) at (digits-lt (at .1 .row-within) (at .1 .column-within)) in
-      let z = integersOf G A B n (i / P .columns) (i % P .columns) in
-      rw (
-        at .1 .part,
-        formed-of-ticket G A B n i inside,
-        value-of-ticket G A B n i inside,
-        lt-ltb (leastResidue modulus z) modulus (residue-below modulus modulus-positive z),
-        in-range n (i / P .columns) (i % P .columns) (at .1 .row-within) (at .1 .column-within),
-      )
+  passed : Passed G (ticketOf G A B)
+  passed =
+      record {
+        setting = w .setting;
+        counts = counts (limits w .sizes);
+        numbers = limits w .numbers;
+        fitted = limits w .fitted;
+        long = length-ticketOf G A B;
+        each = λ k l.
+            let at = located-at G k l in
+            let value = ticket-value G A B (at .2) l in
+            let least = residue-below modulus modulus-positive _ in
+            rw (tests-located (ticketOf G A B) (at .2), value)
+            (one (ticket-formed G A B (at .2) l)
+            (one (lt-ltb _ _ least) (one (in-range (at .0) _ _ (at .1 .within) (at .2 .row-within) (at .2 .column-within)) none)));
+      }
 
   pub ticket-passes : Passes G (ticketOf G A B)
-  unfolding reading recordsReading
-  ticket-passes =
-      let t = ticketOf G A B in
-      let scan = firstRefusal 0 (records G) (recordNumber G t) in
-      after-zero (refusal (settingNumber G) 0) (recordsReading G t) .1 (
-        w .setting,
-        unless-zero (eqb (length t) (ticketLength G)) (refusal 4 0) scan (λ e. omega arith) .1 (
-          eq-eqb _ _ (length-ticketOf G A B),
-          scan-zero 0 (records G) (recordNumber G t) .1 record-passes,
-        ),
-      )
+  ticket-passes = passes-of G (ticketOf G A B) passed
 
   -- what the records stand for
 
   pub written-A : (i k : ℕ) → i < G .rows → k < G .inner → entryA G (ticketOf G A B) i k ≡ entryOf (G .inner) A i k
-  unfolding entryA partA
   written-A i k l m =
-      rw (value-in-ticket G A B nameA i k l m) (entry-kept (entryOf (G .inner) A i k) (size-A i k l m))
+      let is = part-A G in
+      equal-small (G .bound) (size-entryA passed i k l m) (size-A w i k l m) small
+      (residue-entryA passed i k l m ∙ value-in-ticket G A B ofA i k (rw (is .rows-are) l) (rw (is .columns-are) m)
+      ∙ ap (leastResidue modulus) (integer-A G A B i k))
 
   pub written-B : (k j : ℕ) → k < G .inner → j < G .columns → entryB G (ticketOf G A B) k j ≡ entryOf (G .columns) B k j
-  unfolding entryB partB
   written-B k j l m =
-      rw (value-in-ticket G A B nameB k j l m) (entry-kept (entryOf (G .columns) B k j) (size-B k j l m))
+      let is = part-B G in
+      equal-small (G .bound) (size-entryB passed k j l m) (size-B w k j l m) small
+      (residue-entryB passed k j l m ∙ value-in-ticket G A B ofB k j (rw (is .rows-are) l) (rw (is .columns-are) m)
+      ∙ ap (leastResidue modulus) (integer-B G A B k j))
 
-  pub written-quotient : (i j : ℕ) → i < G .rows → j < G .columns → quotient G (ticketOf G A B) i j ≡ quotientOf G A B i j
-  unfolding quotient quotients
-  written-quotient i j l m =
-      let q = quotientOf G A B i j in
-      let half = 2 ^ (G .width - 1) in
-      rw (value-in-ticket G A B nameQuotients i j l m, shifted-is i j l m)
-      (equal-of-parts (pos (positive q + half - negative q) -ℤ pos half) q
-      (omega (arith, parts-difference (pos (positive q + half - negative q)) (pos half), size-quotientOf i j l m)))
+  module _ (i j : ℕ) (l : i < G .rows) (m : j < G .columns) where
+    pub written-quotient : quotient G (ticketOf G A B) i j ≡ quotientOf G A B i j
+    written-quotient =
+        let is = part-quotients G in
+        equal-small (halfRange G) (size-quotient passed i j l m) (size-of-parts (quotientOf G A B i j) (size-quotientOf i j l m))
+        (omega (arith, half-small {G = G} (limits w .numbers), modulus-above))
+        (residue-quotient passed i j l m ∙ value-in-ticket G A B ofQuotients i j (rw (is .rows-are) l) (rw (is .columns-are) m)
+        ∙ ap (leastResidue modulus) (integer-quotient G A B i j))
 
-  pub written-remainder : (i j : ℕ) → i < G .rows → j < G .columns → remainder G (ticketOf G A B) i j ≡ remainderOf G A B i j
-  unfolding remainder remainders
-  written-remainder i j l m =
-      let h = left i j l m in
-      rw (value-in-ticket G A B nameRemainders i j l m, h .2)
-      (ap pos (remainder-kept (h .0) (h .1)))
+    pub written-remainder : remainder G (ticketOf G A B) i j ≡ remainderOf G A B i j
+    written-remainder =
+        let is = part-remainders G in
+        let h = small-remainder passed i j l m in
+        let k = left i j l m in
+        equal-small (G .scale) (rw (h .2) (omega (arith, h .1))) (rw (k .2) (omega (arith, k .1)))
+        (omega (arith, limits w .numbers .scale, modulus-above))
+        (residue-remainder passed i j l m ∙ value-in-ticket G A B ofRemainders i j (rw (is .rows-are) l) (rw (is .columns-are) m)
+        ∙ ap (leastResidue modulus) (integer-remainder G A B i j))
 
-  pub written-sum : (i j : ℕ) → i < G .rows → j < G .columns → exactSum G (ticketOf G A B) i j ≡ sumOf G A B i j
-  unfolding exactSum sumOf
-  written-sum i j l m = sumℤ-cong (G .inner) _ _ (λ k h. cc (written-A i k l h, written-B k j h m))
+    pub written-sum : due G (ticketOf G A B) i j ≡ sumFor G A B i j
+    written-sum =
+        due-is G (ticketOf G A B) i j ∙ same-sums G _ _ _ _ i j (λ k h. written-A i k l h) (λ k h. written-B k j h m)
 
   pub written-true : (j : ℕ) → FalseIn G (ticketOf G A B) j → ⊥
-  unfolding claim
   written-true j f =
       let i = f .1 .0 in
       let l : i < G .rows = f .1 .1 in
       f .1 .2
-      (rw (written-quotient i j l (f .0), written-remainder i j l (f .0), written-sum i j l (f .0)) (claim-sum G A B i j))
+      (claim-is G (ticketOf G A B) i j ∙ rw (written-quotient i j l (f .0), written-remainder i j l (f .0)) (claim-sum G A B i j)
+      ∙ sym (written-sum i j l (f .0)))
 
 pub written-accepted : (G : Setting) (A B : List ℤ) (size : ℕ) → writing G A B size .number ≡ 0
     → fullCheck G (ticketOf G A B) ≡ fullAccepted G
@@ -245,29 +216,22 @@ written-challenge-accepted G A B size e =
     let w = writable-of G A B size e in
     accepted-exactly-well-formed G (ticketOf G A B) (ticket-passes w) (written-true w)
 
--- a value out of range is refused by a number other than 0, in whichever part
-outside-other : (G : Setting) (n : Name) → partNamed G n .outside ≡ 0 → ⊥
-unfolding partA partB quotients remainders
-outside-other G nameA e = omega arith
-outside-other G nameB e = omega arith
-outside-other G nameQuotients e = omega arith
-outside-other G nameRemainders e = omega arith
-
 -- a ticket of bytes that the full check accepts and that has the same A and B
 module _ (G : Setting) (A B : List ℤ) (t : List ℕ) (bytes : (k : ℕ) → getD t k 0 < 256)
     (passed : Passed G t) (none : (j : ℕ) → FalseIn G t j → ⊥)
     (same-A : (i k : ℕ) → i < G .rows → k < G .inner → entryA G t i k ≡ entryOf (G .inner) A i k)
     (same-B : (k j : ℕ) → k < G .inner → j < G .columns → entryB G t k j ≡ entryOf (G .columns) B k j) where
   module _ (i j : ℕ) (l : i < G .rows) (m : j < G .columns) where
-    same-sum : pos (G .scale) *ℤ quotient G t i j +ℤ remainder G t i j ≡ sumOf G A B i j
-    unfolding claim exactSum sumOf
-    same-sum = claims-true G t none i j l m ∙ sumℤ-cong (G .inner) _ _ (λ k h. cc (same-A i k l h, same-B k j h m))
+    same-sum : pos (G .scale) *ℤ quotient G t i j +ℤ remainder G t i j ≡ sumFor G A B i j
+    same-sum =
+        sym (claim-is G t i j) ∙ claims-true G t none i j l m ∙ due-is G t i j
+        ∙ same-sums G _ _ _ _ i j (λ k h. same-A i k l h) (λ k h. same-B k j h m)
 
     same-quotient : quotient G t i j ≡ quotientOf G A B i j
-    unfolding quotientOf remainder
+    unfolding quotientOf
     same-quotient =
-        floor-unique (sumOf G A B i j) (quotient G t i j) (G .scale) (valueIn t (remainders G) i j)
-        (small-remainder passed i j l m) same-sum
+        let h = small-remainder passed i j l m in
+        floor-unique (sumFor G A B i j) (quotient G t i j) (G .scale) (h .0) (h .1) (rw (h .2) at same-sum)
 
     same-remainder : remainder G t i j ≡ remainderOf G A B i j
     unfolding remainderOf
@@ -276,55 +240,36 @@ module _ (G : Setting) (A B : List ℤ) (t : List ℕ) (bytes : (k : ℕ) → ge
         rw (← same-quotient, ← same-sum)
         (sym (ap (λ z. z -ℤ product) (+ℤ-comm product (remainder G t i j)) ∙ +ℤ-negℤ-cancel (remainder G t i j) product))
 
-  same-value : (n : Name) (i j : ℕ) → i < partNamed G n .rows → j < partNamed G n .columns
-      → valueIn t (partNamed G n) i j ≡ leastResidue modulus (integersOf G A B n i j)
-  unfolding partA partB quotients remainders
-  same-value nameA i j l m = sym (residue-entryA passed i j l m) ∙ ap (leastResidue modulus) (same-A i j l m)
-  same-value nameB i j l m = sym (residue-entryB passed i j l m) ∙ ap (leastResidue modulus) (same-B i j l m)
-  same-value nameQuotients i j l m =
-      sym (residue-quotient passed i j l m) ∙ ap (leastResidue modulus) (same-quotient i j l m)
-  same-value nameRemainders i j l m =
-      sym (residue-remainder passed i j l m) ∙ ap (leastResidue modulus) (same-remainder i j l m)
-
-  bytes-of-part : (P : Part) (k : ℕ) → getD (bytesOf t P) k 0 < 256
-  unfolding bytesOf
-  bytes-of-part P k = rw (getD-drop (recordBytes * P .start) t k 0) (bytes (recordBytes * P .start + k))
-
-  -- a byte of a part is one of the ticket
-  byte-of-part : (u : List ℕ) (P : Part) (k byte : ℕ) → P .start ≤ k
-      → getD u (recordBytes * k + byte) 0 ≡ getD (bytesOf u P) (recordBytes * (k - P .start) + byte) 0
-  unfolding bytesOf
-  byte-of-part u P k byte l = rw getD-drop (ap (λ n. getD u n 0) (omega arith))
+  same-value : (n i j : ℕ) → n < length (parts G) → i < part G n .rows → j < part G n .columns
+      → valueIn G t n i j ≡ leastResidue modulus (integerIn G A B n i j)
+  same-value =
+      every-part G (λ n i j. valueIn G t n i j ≡ leastResidue modulus (integerIn G A B n i j))
+      (λ i j l m. sym (residue-entryA passed i j l m) ∙ ap (leastResidue modulus) (same-A i j l m ∙ sym (integer-A G A B i j)))
+      (λ i j l m. sym (residue-entryB passed i j l m) ∙ ap (leastResidue modulus) (same-B i j l m ∙ sym (integer-B G A B i j)))
+      (λ i j l m. sym (residue-quotient passed i j l m)
+      ∙ ap (leastResidue modulus) (same-quotient i j l m ∙ sym (integer-quotient G A B i j)))
+      (λ i j l m. sym (residue-remainder passed i j l m)
+      ∙ ap (leastResidue modulus) (same-remainder i j l m ∙ sym (integer-remainder G A B i j)))
 
   -- byte by byte, the two tickets have the same records
-  same-byte : (k byte : ℕ) → k < records G → byte < recordBytes
-      → getD t (recordBytes * k + byte) 0 ≡ getD (ticketOf G A B) (recordBytes * k + byte) 0
-  unfolding recordNumber valueIn
+  same-byte : (k byte : ℕ) → k < records G → byte < recordBytes → byteAt t k byte ≡ byteAt (ticketOf G A B) k byte
   same-byte k byte l m =
-      let at = located-at G (passed .counts .sizes) k l in
+      let at = located-at G k l in
       let n = at .0 in
-      let P = partNamed G n in
-      let i = k - P .start in
-      let row = i / P .columns in
-      let column = i % P .columns in
-      let after : P .start ≤ k = omega (arith, at .1 .place) in
-      let index : i ≡ row * P .columns + column = omega (arith, at .1 .place) in
-      let inside : i < P .rows * P .columns = rw (sym index) at (digits-lt (at .1 .row-within) (at .1 .column-within)) in
-      let form = number-zero t P (outside-other G n) i (rw (at .1 .part) at (passed .passed k l)) .0 in
-      let value : valueAt (bytesOf t P) i ≡ leastResidue modulus (integersOf G A B n row column) =
-      ap (valueAt (bytesOf t P)) index ∙ same-value n row column (at .1 .row-within) (at .1 .column-within) in
-      byte-of-part t P k byte after
-      ∙ record-read (bytesOf t P) i (P .kind) row column (bytes-of-part P) form .byte byte m
-      ∙ ap (λ v. getD (recordOf (P .kind) row column v) byte 0) value
-      ∙ sym (record-of-ticket G A B n i inside .byte byte m)
-      ∙ sym (byte-of-part (ticketOf G A B) P k byte after)
+      let row = (k - start G n) / part G n .columns in
+      let column = (k - start G n) % part G n .columns in
+      let value : valueAt t k ≡ leastResidue modulus (integerIn G A B n row column) =
+      ap (valueAt t) (at .2 .place) ∙ sym (value-in G t n row column)
+      ∙ same-value n row column (at .1 .within) (at .2 .row-within) (at .2 .column-within) in
+      record-read t k (part G n .kind) row column bytes (record-formed passed l (at .2)) .is .byte byte m
+      ∙ ap (λ v. getD (recordOf (part G n .kind) row column v) byte 0) value
+      ∙ sym (ticket-record-at G A B (at .2) l .is .byte byte m)
 
   same-ticket : t ≡ ticketOf G A B
-  unfolding ticketLength
   same-ticket =
       ext-getD 0 t (ticketOf G A B) (passed .long ∙ sym (length-ticketOf G A B))
       (λ i l. let place : recordBytes * (i / recordBytes) + i % recordBytes ≡ i = div-add-mod i recordBytes in
-      rw place at (same-byte (i / recordBytes) (i % recordBytes) (omega (arith, passed .long)) (mod-lt i (omega arith))))
+      rw place at (same-byte (i / recordBytes) (i % recordBytes) (omega (arith, passed .long, length-records G)) (mod-lt i (omega arith))))
 
 pub only-ticket : (G : Setting) (A B : List ℤ) (t : List ℕ) → ((k : ℕ) → getD t k 0 < 256) → FullAccepted G t
     → ((i k : ℕ) → i < G .rows → k < G .inner → entryA G t i k ≡ entryOf (G .inner) A i k)

@@ -23,6 +23,7 @@
 --   value-in              the value in a row and a column of a part is that of its record
 --   PartIs P κ r c f      the part P has kind κ, r rows and c columns, and the values in range are those of f
 --   part-A, part-B, part-quotients, part-remainders   what each part is
+--   every-part            what holds of each row and column of each of them holds of those of every part
 use Prim.Native.Nat.{ℕ, zero, suc, _+_, _-_, _*_, _/_, _%_, _^_, _≤_, _<_, min}
 use native.Mathlib.Nat.{add-sub-cancel-left, min-eq-left, min-eq-right, mod-lt, div-add-mod', div-lt-iff-lt-mul}
 use native.Mathlib.Decide.{decLe, ℕ-discrete}
@@ -337,3 +338,14 @@ module _ (G : Setting) where
   pub part-remainders : PartIs (part G ofRemainders) 4 (G .rows) (G .columns) (λ x. ltb x (G .scale))
   unfolding parts part
   part-remainders = record { kind-is = refl; rows-are = refl; columns-are = refl; range-is = λ x. refl }
+
+  pub every-part : (Q : ℕ → ℕ → ℕ → Type 0) → ((i j : ℕ) → i < G .rows → j < G .inner → Q ofA i j)
+      → ((i j : ℕ) → i < G .inner → j < G .columns → Q ofB i j) → ((i j : ℕ) → i < G .rows → j < G .columns → Q ofQuotients i j)
+      → ((i j : ℕ) → i < G .rows → j < G .columns → Q ofRemainders i j)
+      → (w i j : ℕ) → w < length (parts G) → i < part G w .rows → j < part G w .columns → Q w i j
+  unfolding parts part
+  every-part Q a b q r zero i j h l m = a i j l m
+  every-part Q a b q r (suc zero) i j h l m = b i j l m
+  every-part Q a b q r (suc (suc zero)) i j h l m = q i j l m
+  every-part Q a b q r (suc (suc (suc zero))) i j h l m = r i j l m
+  every-part Q a b q r (suc (suc (suc (suc w)))) i j h l m = absurd (omega arith)
