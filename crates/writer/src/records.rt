@@ -7,7 +7,7 @@ ghost use Rattle.residue.specs.Rules.{modulus, leastResidue};
 ghost use Rattle.ticket.specs.Rules.{recordBytes};
 ghost use Rattle.writer.specs.Laws.Records.{wordsOf};
 ghost use Rattle.writer.specs.Laws.Writes.{Among, Wrote};
-ghost use Rattle.writer.specs.Laws.Lines.{lineRecord, LineReady, operandRecord, OperandReady};
+ghost use Rattle.writer.specs.Laws.Lines.{LineReady, LineWrote, OperandReady, OperandWrote};
 use residue::Entry;
 use residue::Residue;
 use ticket::RECORD;
@@ -25,7 +25,7 @@ pub(crate) fn write_operand(
     operand: &[i32],
 )
     requires { ⌜ OperandReady start height width (now operand) (now output) ⌝ }
-    ensures { λ r. ⌜ Wrote (operandRecord kind width start (now (operand .entry))) (Among start (height * width)) (now (output .entry)) (now (output .exit)) ⌝ }
+    ensures { λ r. ⌜ OperandWrote kind height width start (now (operand .entry)) (now (output .entry)) (now (output .exit)) ⌝ }
 {
     let mut first = 0;
     let mut row = 0;
@@ -41,7 +41,7 @@ pub(crate) fn write_operand(
 // makes several records at a time.
 fn write_line(output: &mut [u8], first: usize, kind: u8, row: u8, entries: &[i32])
     requires { ⌜ LineReady first (now entries) (now output) ⌝ }
-    ensures { λ r. ⌜ Wrote (lineRecord kind row first (now (entries .entry))) (Among first (length (now (entries .entry)))) (now (output .entry)) (now (output .exit)) ⌝ }
+    ensures { λ r. ⌜ LineWrote kind row first (now (entries .entry)) (now (output .entry)) (now (output .exit)) ⌝ }
 {
     let mut header = ticket::word(kind, 0, row, 0);
     let mut column = 0;

@@ -33,7 +33,7 @@ use Rattle.algebra.specs.Laws.MatrixProducts.{matrixProduct-cong}
 use Rattle.ticket.specs.declared.setting.Setting.{Setting}
 use Rattle.ticket.specs.Rules.{reach, halfRange, lift, parts, part, start, records, recordBytes, ofA, ofB, ofQuotients, ofRemainders, recordTests, Passes, FalseIn, byteAt, valueAt, valueIn, entryA, entryB, quotient, remainder, exactSum, due}
 use Rattle.ticket.specs.Laws.Differences.{claim-is, due-is, exactSum-is, size-entryA, size-entryB, size-quotient, small-remainder, residue-entryA, residue-entryB, residue-quotient, residue-remainder, claims-true}
-use Rattle.ticket.specs.Laws.Layout.{located-at, tests-located, value-in, part-A, part-B, part-quotients, part-remainders, every-part}
+use Rattle.ticket.specs.Laws.Layout.{located-at, tests-located, value-in, part-A, part-B, part-quotients, part-remainders, range-A, range-B, range-quotients, range-remainders, every-part}
 use Rattle.ticket.specs.Laws.Limits.{counts, half-small, half-double, lift-small}
 use Rattle.ticket.specs.Laws.Passes.{Passed, passed-of, passes-of, record-formed}
 use Rattle.ticket.specs.Laws.Tests.{AllHold, none, one}
@@ -127,15 +127,15 @@ module _ {G : Setting} {A B : List ℤ} (w : Writable G A B) where
       → part G n .range (leastResidue modulus (integerIn G A B n i j)) ≡ true
   in-range =
       every-part G (λ n i j. part G n .range (leastResidue modulus (integerIn G A B n i j)) ≡ true)
-      (λ i j l m. part-A G .range-is _ ∙ rw (integer-A G A B i j) (entry-range _ (size-A w i j l m)))
-      (λ i j l m. part-B G .range-is _ ∙ rw (integer-B G A B i j) (entry-range _ (size-B w i j l m)))
+      (λ i j l m. range-A G _ ∙ rw (integer-A G A B i j) (entry-range _ (size-A w i j l m)))
+      (λ i j l m. range-B G _ ∙ rw (integer-B G A B i j) (entry-range _ (size-B w i j l m)))
       (λ i j l m. let q = quotientOf G A B i j in
-      part-quotients G .range-is _ ∙ rw (integer-quotient G A B i j, shifted-is i j l m)
+      range-quotients G _ ∙ rw (integer-quotient G A B i j, shifted-is i j l m)
       (lt-ltb (positive q + halfRange G - negative q) (2 ^ G .width)
       (omega (arith, size-quotientOf i j l m, half-double {G = G} (limits w .numbers)))))
       (λ i j l m. let h = left i j l m in
       let kept = residue-of-residue modulus modulus-positive (h .0) (omega (arith, h .1, limits w .numbers .scale, modulus-above)) in
-      part-remainders G .range-is _ ∙ rw (integer-remainder G A B i j, h .2, kept) (lt-ltb _ _ (h .1)))
+      range-remainders G _ ∙ rw (integer-remainder G A B i j, h .2, kept) (lt-ltb _ _ (h .1)))
 
   passed : Passed G (ticketOf G A B)
   passed =

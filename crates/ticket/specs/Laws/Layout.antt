@@ -21,8 +21,9 @@
 --   located-once          and at no other part, row or column
 --   locatedTests G t k w i j, tests-located   the tests of record k by its part, row and column
 --   value-in              the value in a row and a column of a part is that of its record
---   PartIs P κ r c f      the part P has kind κ, r rows and c columns, and the values in range are those of f
---   part-A, part-B, part-quotients, part-remainders   what each part is
+--   PartIs G w κ r c      part w has kind κ, r rows and c columns
+--   part-A, part-B, part-quotients, part-remainders   the parts by name
+--   range-A, range-B, range-quotients, range-remainders   which values are in range
 --   every-part            what holds of each row and column of each of them holds of those of every part
 use Prim.Native.Nat.{ℕ, zero, suc, _+_, _-_, _*_, _/_, _%_, _^_, _≤_, _<_, min}
 use native.Mathlib.Nat.{add-sub-cancel-left, min-eq-left, min-eq-right, mod-lt, div-add-mod', div-lt-iff-lt-mul}
@@ -313,31 +314,44 @@ pub value-in : (G : Setting) (t : List ℕ) (w i j : ℕ) → valueIn G t w i j 
 unfolding valueIn
 value-in G t w i j = refl
 
-pub record PartIs (P : Part) (kind rows columns : ℕ) (range : ℕ → Bool) : Type 0 where
-  pub kind-is : P .kind ≡ kind
-  pub rows-are : P .rows ≡ rows
-  pub columns-are : P .columns ≡ columns
-  pub range-is : (x : ℕ) → P .range x ≡ range x
+pub record PartIs (G : Setting) (w kind rows columns : ℕ) : Type 0 where
+  pub kind-is : part G w .kind ≡ kind
+  pub rows-are : part G w .rows ≡ rows
+  pub columns-are : part G w .columns ≡ columns
 
 module _ (G : Setting) where
-  abbrev entries : ℕ → Bool
-  entries x = leb (natAbs (signedEntry modulus x)) (G .bound)
-
-  pub part-A : PartIs (part G ofA) 1 (G .rows) (G .inner) entries
-  unfolding parts part isEntry
-  part-A = record { kind-is = refl; rows-are = refl; columns-are = refl; range-is = λ x. refl }
-
-  pub part-B : PartIs (part G ofB) 2 (G .inner) (G .columns) entries
-  unfolding parts part isEntry
-  part-B = record { kind-is = refl; rows-are = refl; columns-are = refl; range-is = λ x. refl }
-
-  pub part-quotients : PartIs (part G ofQuotients) 3 (G .rows) (G .columns) (λ x. ltb ((x + halfRange G) % modulus) (2 ^ G .width))
-  unfolding parts part shiftedQuotient
-  part-quotients = record { kind-is = refl; rows-are = refl; columns-are = refl; range-is = λ x. refl }
-
-  pub part-remainders : PartIs (part G ofRemainders) 4 (G .rows) (G .columns) (λ x. ltb x (G .scale))
+  pub part-A : PartIs G ofA 1 (G .rows) (G .inner)
   unfolding parts part
-  part-remainders = record { kind-is = refl; rows-are = refl; columns-are = refl; range-is = λ x. refl }
+  part-A = record { kind-is = refl; rows-are = refl; columns-are = refl }
+
+  pub part-B : PartIs G ofB 2 (G .inner) (G .columns)
+  unfolding parts part
+  part-B = record { kind-is = refl; rows-are = refl; columns-are = refl }
+
+  pub part-quotients : PartIs G ofQuotients 3 (G .rows) (G .columns)
+  unfolding parts part
+  part-quotients = record { kind-is = refl; rows-are = refl; columns-are = refl }
+
+  pub part-remainders : PartIs G ofRemainders 4 (G .rows) (G .columns)
+  unfolding parts part
+  part-remainders = record { kind-is = refl; rows-are = refl; columns-are = refl }
+
+  module _ (x : ℕ) where
+    pub range-A : part G ofA .range x ≡ leb (natAbs (signedEntry modulus x)) (G .bound)
+    unfolding parts part isEntry
+    range-A = refl
+
+    pub range-B : part G ofB .range x ≡ leb (natAbs (signedEntry modulus x)) (G .bound)
+    unfolding parts part isEntry
+    range-B = refl
+
+    pub range-quotients : part G ofQuotients .range x ≡ ltb ((x + halfRange G) % modulus) (2 ^ G .width)
+    unfolding parts part shiftedQuotient
+    range-quotients = refl
+
+    pub range-remainders : part G ofRemainders .range x ≡ ltb x (G .scale)
+    unfolding parts part
+    range-remainders = refl
 
   pub every-part : (Q : ℕ → ℕ → ℕ → Type 0) → ((i j : ℕ) → i < G .rows → j < G .inner → Q ofA i j)
       → ((i j : ℕ) → i < G .inner → j < G .columns → Q ofB i j) → ((i j : ℕ) → i < G .rows → j < G .columns → Q ofQuotients i j)

@@ -6,7 +6,7 @@ use lib.ListN.{length}
 use Rattle.ticket.specs.Rules.{ticketLength}
 use Rattle.ticket.specs.Laws.Limits.{Within}
 use Rattle.writer.specs.Laws.Entries.{limits}
-use Rattle.writer.specs.Laws.Tickets.{ready-A, ready-B, wrote-A, wrote-B, ticket-wrote}
+use Rattle.writer.specs.Laws.Tickets.{ready-A, ready-B, ticket-wrote}
 use Rattle.writer.proofs.write_ticket.Statement.{statement}
 use Rattle.writer.proofs.write_ticket.Tie as tie
 
@@ -21,12 +21,12 @@ abbrev second : tie.After-write-claims-arg → tie.After-write-operand2
 second c = c .before .before .before
 
 write-operand-requires : tie.Need-write-operand-requires
-write-operand-requires c κs = let at = c .before in ready-A (begun at .pre .0) (at .before .start .ensures) (begun at .pre .1)
+write-operand-requires c κs = let at = c .before in ready-A (begun at .pre .0) (begun at .pre .1) (at .before .start .ensures)
 
 write-operand-requires-2 : tie.Need-write-operand-requires-2
 write-operand-requires-2 c κs =
     let at = first c .before .before in
-    ready-B (begun at .pre .0) (at .start2 .ensures) (omega (arith, first c .write-operand .ensures .long, begun at .pre .1))
+    ready-B (begun at .pre .0) (omega (arith, first c .write-operand .ensures .long, begun at .pre .1)) (at .start2 .ensures)
 
 write-claims-requires : tie.Need-write-claims-requires
 write-claims-requires c κs =
@@ -40,9 +40,8 @@ returns c =
     let B = second (claims .before) in
     let A = first (B .before) in
     let at = A .before .before in
-    let w = begun at .pre .0 in
-    ticket-wrote _ _ _ (begun at .pre .1) (wrote-A w (at .before .start .ensures) (A .write-operand .ensures))
-    (wrote-B w (at .start2 .ensures) (B .write-operand2 .ensures)) (claims .write-claims .ensures)
+    ticket-wrote (begun at .pre .0) (begun at .pre .1) (at .before .start .ensures) (A .write-operand .ensures) (at .start2 .ensures)
+    (B .write-operand2 .ensures) (claims .write-claims .ensures)
 
 pub write-ticket-spec : {M : Type 1} → statement M
 write-ticket-spec =

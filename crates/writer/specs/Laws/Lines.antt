@@ -2,24 +2,29 @@
 --
 --   lineRecord κ i a x k     record k of the output, where the row x, row i of a part of kind κ, has its records from record a on
 --   LineReady a x o          the output o has room for them
---   operandRecord κ n a x k  record k, where the operand x of n columns, of kind κ, has its records from record a on
---   OperandReady a m n x o   the output has room for them, x having m rows
---   line-record, row-records   one more record of a row is written, and one more row of an operand
-use Prim.Native.Nat.{ℕ, _+_, _-_, _*_, _/_, _%_, _≤_, _<_}
+--   LineWrote κ i a x o o'   they are written
+--   OperandReady a m n x o   the output has room for those of the operand x of m rows and n columns
+--   OperandOf G A B w κ m n a x   x is what part w stands for, which has the kind κ and begins at record a
+--   OperandTo κ m n a x c o o'    its first c records are written, whatever ticket it is in
+--   OperandWrote κ m n a x o o'   all are
+--   line-record           one more record of a row is written
+--   rows-none, row-records   no row of the operand is written yet, and one more
+use Prim.Native.Nat.{ℕ, _+_, _-_, _*_, _≤_, _<_}
 use native.Mathlib.Omega.{arith}
 use mathlib.Core.Path.{_≡_, sym, ap, _∙_}
 use mathlib.Core.List.{List}
-use lib.Arith.{digits-div, digits-mod}
 use lib.IntN.{ℤ, pos}
 use lib.ListN.{length, getD, take, drop}
 use Rattle.residue.specs.Rules.{modulus, leastResidue}
 use Rattle.algebra.specs.Rules.{word}
 use Rattle.algebra.specs.Laws.Fills.{part-of}
-use Rattle.ticket.specs.Rules.{mostInner, recordBytes}
-use Rattle.writer.specs.Rules.{recordOf}
+use Rattle.ticket.specs.declared.setting.Setting.{Setting}
+use Rattle.ticket.specs.Rules.{mostInner, recordBytes, part, start}
+use Rattle.ticket.specs.Laws.Layout.{PartIs}
+use Rattle.writer.specs.Rules.{entryOf, integerIn, recordOf, ticketRecord}
 use Rattle.writer.specs.Laws.Operands.{SmallEntries}
-use Rattle.writer.specs.Laws.Records.{wordsOf, words-record}
-use Rattle.writer.specs.Laws.Writes.{Among, Wrote, wrote-as, wrote-on}
+use Rattle.writer.specs.Laws.Records.{wordsOf, words-record, record-named}
+use Rattle.writer.specs.Laws.Writes.{Among, Wrote, wrote-none, wrote-as, wrote-on}
 
 abbrev pub lineRecord : ℕ → ℕ → ℕ → List ℤ → ℕ → List ℕ
 lineRecord kind row first entries k = recordOf kind row (k - first) (leastResidue modulus (getD entries (k - first) (pos 0)))
@@ -29,9 +34,8 @@ pub record LineReady (first : ℕ) (entries : List ℤ) (output : List ℕ) : Ty
   pub wide : length entries ≤ mostInner
   pub room : recordBytes * (first + length entries) ≤ length output
 
-abbrev pub operandRecord : ℕ → ℕ → ℕ → List ℤ → ℕ → List ℕ
-operandRecord kind width start operand k =
-    let i = k - start in recordOf kind (i / width) (i % width) (leastResidue modulus (getD operand i (pos 0)))
+abbrev pub LineWrote : ℕ → ℕ → ℕ → List ℤ → List ℕ → List ℕ → Type 0
+LineWrote kind row first entries = Wrote (lineRecord kind row first entries) (Among first (length entries))
 
 pub record OperandReady (start height width : ℕ) (operand : List ℤ) (output : List ℕ) : Type 0 where
   pub entries-small : SmallEntries operand
@@ -39,6 +43,21 @@ pub record OperandReady (start height width : ℕ) (operand : List ℤ) (output 
   pub wide : width ≤ mostInner
   pub count : length operand ≡ height * width
   pub room : recordBytes * (start + height * width) ≤ length output
+
+pub record OperandOf (G : Setting) (A B : List ℤ) (w kind height width first : ℕ) (operand : List ℤ) : Type 0 where
+  pub named : PartIs G w kind height width
+  pub integers : (i j : ℕ) → integerIn G A B w i j ≡ entryOf width operand i j
+  pub first-is : first ≡ start G w
+
+-- the first n records
+abbrev pub OperandTo : ℕ → ℕ → ℕ → ℕ → List ℤ → ℕ → List ℕ → List ℕ → Type 0
+OperandTo kind height width first operand n before after =
+    (G : Setting) (A B : List ℤ) (w : ℕ) → OperandOf G A B w kind height width first operand
+    → Wrote (ticketRecord G A B) (Among first n) before after
+
+pub record OperandWrote (kind height width first : ℕ) (operand : List ℤ) (before after : List ℕ) : Type 0 where
+  pub long : length after ≡ length before
+  pub wrote : OperandTo kind height width first operand (height * width) before after
 
 pub line-record : (kind row first : ℕ) (entries : List ℤ) {column header value : ℕ} {before output after : List ℕ}
     → Wrote (lineRecord kind row first entries) (Among first column) before output
@@ -50,17 +69,17 @@ line-record kind row first entries {column} {header} {value} so-far one k i j he
     let place : n - first ≡ column = omega (arith, a .from, a .below) in
     words-record kind row column value k i j header-is ∙ rw (place, value-is)))
 
-pub row-records : (kind width start : ℕ) (operand : List ℤ) (row : ℕ) {first : ℕ} {before output after : List ℕ} → first ≡ row * width
-    → Wrote (operandRecord kind width start operand) (Among start first) before output
+pub rows-none : {kind height width first : ℕ} {operand : List ℤ} {before : List ℕ} → OperandTo kind height width first operand 0 before before
+rows-none G A B w of = wrote-none (λ k a. omega (arith, a .from, a .below))
+
+pub row-records : (kind height width start : ℕ) (operand : List ℤ) (row : ℕ) {first : ℕ} {before output after : List ℕ} → row < height
+    → first ≡ row * width → OperandTo kind height width start operand first before output
     → Wrote (lineRecord kind row (start + first) (take (first + width - first) (drop first operand))) (Among (start + first) width) output after
-    → Wrote (operandRecord kind width start operand) (Among start (first + width)) before after
-row-records kind width start operand row {first} first-is so-far line =
-    wrote-on so-far (wrote-as line (λ n a.
+    → OperandTo kind height width start operand (first + width) before after
+row-records kind height width start operand row {first} l first-is so-far line G A B w of =
+    wrote-on (so-far G A B w of) (wrote-as line (λ n a.
     let j = n - (start + first) in
     let inside : j < width = omega (arith, a .from, a .below) in
-    let place : n - start ≡ first + j = omega (arith, a .from) in
-    let digits : n - start ≡ row * width + j = omega arith in
-    let row-is : (n - start) / width ≡ row = ap (λ i. i / width) digits ∙ digits-div row inside in
-    let column-is : (n - start) % width ≡ j = ap (λ i. i % width) digits ∙ digits-mod row inside in
-    let entry-is = part-of operand first width j (pos 0) inside ∙ ap (λ i. getD operand i (pos 0)) (sym place) in
-    rw (row-is, column-is, entry-is)))
+    let entry = part-of operand first width j (pos 0) inside ∙ ap (λ i. getD operand (i + j) (pos 0)) first-is in
+    record-named G A B (of .named) l inside (ap (leastResidue modulus) (entry ∙ sym (of .integers row j)))
+    (omega (arith, a .from, of .first-is))))

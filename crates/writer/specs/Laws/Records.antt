@@ -11,6 +11,7 @@
 --   length-ticketOf      how many bytes the ticket has
 --   ticket-record        record k of the ticket
 --   record-located, ticket-record-at   the same, by its part, row and column
+--   record-named         and by its part's kind and sizes
 --   ticket-formed, ticket-value   its form and its value
 --   value-in-ticket      the value in a row and a column of a part
 --   integer-A, integer-B, integer-quotient, integer-remainder   the integers of each part
@@ -37,7 +38,7 @@ use Rattle.algebra.specs.Laws.Bytes.{bytes-of-word, word-of-bytes}
 use Rattle.ticket.specs.declared.setting.Setting.{Setting}
 use Rattle.ticket.specs.Rules.{recordBytes, byteAt, records, ticketLength, part, start, ofA, ofB, ofQuotients, ofRemainders, formed, valueAt, valueIn}
 use Rattle.ticket.specs.Laws.Forms.{FormedBytes, formed-exactly, value-is}
-use Rattle.ticket.specs.Laws.Layout.{parts-are, length-is, Located, record-at, value-in}
+use Rattle.ticket.specs.Laws.Layout.{parts-are, length-is, Located, record-at, value-in, PartIs}
 use Rattle.writer.specs.Rules.{joined, recordOf, integersOf, integerIn, ticketRecord, ticketOf, entryOf, quotientOf, remainderOf}
 use Rattle.writer.specs.Laws.Writes.{RecordIs}
 
@@ -147,6 +148,14 @@ module _ (G : Setting) (A B : List ℤ) where
 
       pub ticket-value : valueAt (ticketOf G A B) k ≡ leastResidue modulus (integerIn G A B w row column)
       ticket-value = value-record ticket-record-at (omega (arith, residue-below modulus modulus-positive (integerIn G A B w row column), modulus-below))
+
+  -- the record in a row and a column of a part that is known by its kind and sizes
+  pub record-named : {w kind rows columns : ℕ} → PartIs G w kind rows columns → {row column value k : ℕ} → row < rows
+      → column < columns → value ≡ leastResidue modulus (integerIn G A B w row column) → k ≡ start G w + (row * columns + column)
+      → recordOf kind row column value ≡ ticketRecord G A B k
+  record-named {w} is {row} {column} l m value place =
+      let at = record-at G w row column (rw (is .rows-are) l) (rw (is .columns-are) m) .1 in
+      sym (rw (is .columns-are, sym place, is .kind-is, sym value) at (record-located at))
 
   pub value-in-ticket : (w row column : ℕ) → row < part G w .rows → column < part G w .columns
       → valueIn G (ticketOf G A B) w row column ≡ leastResidue modulus (integerIn G A B w row column)

@@ -13,7 +13,6 @@
 use Prim.Native.Nat.{ℕ, _+_, _-_, _*_, _^_, _≤_, _<_}
 use native.Mathlib.Omega.{arith}
 use mathlib.Core.Path.{_≡_, sym, ap, _∙_}
-use mathlib.Core.Bool.{Bool}
 use mathlib.Core.Logic.{⊎-elim}
 use mathlib.Core.List.{List}
 use lib.Arith.{digits-lt, digits-div, digits-mod}
@@ -30,14 +29,14 @@ use Rattle.exact.specs.Laws.Products.{dot-is}
 use Rattle.ticket.specs.declared.setting.Setting.{Setting}
 use Rattle.ticket.specs.Rules.{mostRows, recordBytes, ticketLength, part, start, ofQuotients, ofRemainders}
 use Rattle.ticket.specs.Laws.Differences.{exactSum-is}
-use Rattle.ticket.specs.Laws.Layout.{parts-are, length-is, record-at, PartIs, part-quotients, part-remainders}
+use Rattle.ticket.specs.Laws.Layout.{parts-are, length-is, PartIs, part-quotients, part-remainders}
 use Rattle.ticket.specs.Laws.Limits.{Sizes, counts, clamped}
 use Rattle.writer.specs.Rules.{entryOf, sumFor, quotientOf, remainderOf, integerIn, ticketRecord}
 use Rattle.writer.specs.Laws.Answers.{Writable}
 use Rattle.writer.specs.Laws.Claims.{Lifting, Claimed, quotient-true, remainder-true}
 use Rattle.writer.specs.Laws.Entries.{limits, unclamped, long-A, size-sumFor}
 use Rattle.writer.specs.Laws.Operands.{columnOf}
-use Rattle.writer.specs.Laws.Records.{wordsOf, words-record, record-located, integer-quotient, integer-remainder}
+use Rattle.writer.specs.Laws.Records.{wordsOf, words-record, record-named, integer-quotient, integer-remainder}
 use Rattle.writer.specs.Laws.Writes.{Wrote, Among, Both, wrote-none, wrote-as, wrote-both, both-on}
 
 pub record RowReady (G : Setting) (half lifting : ℕ) (line columns : List ℤ) (quotients remainders : ℕ) (output : List ℕ) : Type 0 where
@@ -67,15 +66,13 @@ pub record RowWrote (G : Setting) (row : ℕ) (line columns : List ℤ) (quotien
   pub wrote : RowTo G row line columns quotients remainders (G .columns) before after
 
 -- a record of the claims, by its words
-claim-record : (G : Setting) (A B : List ℤ) (w kind : ℕ) {range : ℕ → Bool} → PartIs (part G w) kind (G .rows) (G .columns) range
+claim-record : (G : Setting) (A B : List ℤ) {w kind : ℕ} → PartIs G w kind (G .rows) (G .columns)
     → {row column first header value : ℕ} → row < G .rows → column < G .columns → first ≡ start G w + row * G .columns
     → kind < 256 → row < 256 → column < 256 → header ≡ word kind 0 row column → value ≡ leastResidue modulus (integerIn G A B w row column)
     → (k : ℕ) → Among (first + column) 1 k → wordsOf header value ≡ ticketRecord G A B k
-claim-record G A B w kind is {row} {column} {value = value} l m first-is small-kind small-row small-column header-is value-is k a =
-    let at = record-at G w row column (rw (is .rows-are) l) (rw (is .columns-are) m) .1 in
-    let place : start G w + (row * part G w .columns + column) ≡ k = rw (is .columns-are) (omega (arith, a .from, a .below)) in
+claim-record G A B {kind = kind} is {row} {column} {value = value} l m first-is small-kind small-row small-column header-is value-is k a =
     words-record kind row column value small-kind small-row small-column header-is
-    ∙ sym (rw (place, is .kind-is, sym value-is) at (record-located G A B at))
+    ∙ record-named G A B is l m value-is (omega (arith, a .from, a .below))
 
 module _ {G : Setting} {row : ℕ} {line columns : List ℤ} {quotients remainders : ℕ} where
   -- the sum of the line and a column
@@ -115,8 +112,8 @@ module _ {G : Setting} {row : ℕ} {line columns : List ℤ} {quotients remainde
       let few : column < 256 = omega (arith, sizes .columns) in
       both-on (so-far A B of)
       (wrote-both
-      (wrote-as first (claim-record G A B ofQuotients 3 (part-quotients G) (of .within) m (of .quotients-at) (omega arith) small few x-is quotient))
-      (wrote-as second (claim-record G A B ofRemainders 4 (part-remainders G) (of .within) m (of .remainders-at) (omega arith) small few y-is remainder)))
+      (wrote-as first (claim-record G A B (part-quotients G) (of .within) m (of .quotients-at) (omega arith) small few x-is quotient))
+      (wrote-as second (claim-record G A B (part-remainders G) (of .within) m (of .remainders-at) (omega arith) small few y-is remainder)))
 
 -- all rows
 

@@ -5,15 +5,14 @@ use mathlib.Core.Path.{_≡_, ap, _∙_}
 use lib.ListN.{length}
 use Rattle.algebra.specs.Laws.Fills.{part-long}
 use Rattle.algebra.specs.Laws.Positions.{row-inside}
-use Rattle.writer.specs.Laws.Lines.{operandRecord, row-records}
+use Rattle.writer.specs.Laws.Lines.{OperandTo, rows-none, row-records}
 use Rattle.writer.specs.Laws.Operands.{small-part}
-use Rattle.writer.specs.Laws.Writes.{Among, Wrote, wrote-none}
 use Rattle.writer.proofs.records.write_operand.Statement.{statement}
 use Rattle.writer.proofs.records.write_operand.Tie as tie
 
 abbrev Inv-loop : tie.InvT-loop
 Inv-loop output₀ start kind height width operand first₀ row₀ output first row =
-    (row ≤ height) × (first ≡ row * width) × Wrote (operandRecord kind width start operand) (Among start first) output₀ output
+    (row ≤ height) × (first ≡ row * width) × (length output ≡ length output₀) × OperandTo kind height width start operand first output₀ output
 
 abbrev μ-loop : tie.MeasureT-loop
 μ-loop output₀ start kind height width operand first₀ row₀ output first row = height - row
@@ -36,7 +35,7 @@ write-line-requires c κs =
     record {
       entries-small = small-part (at .loop .first) (start at .args .width) (pre .entries-small) fits;
       wide = omega (arith, pre .wide);
-      room = omega (arith, pre .room, room (c .before .before), at .loop .inv .2 .long);
+      room = omega (arith, pre .room, room (c .before .before), at .loop .inv .2);
     }
 
 loop-again : tie.Need-loop-again Inv-loop μ-loop
@@ -49,7 +48,9 @@ loop-again c =
     let line = rw (part-long operand (at .first) (begun .args .width) fits) at (c .before .before .write-line .ensures) in (
       omega arith,
       omega (arith, at .inv .1),
-      row-records (begun .args .kind) (begun .args .width) (begun .args .start) operand (at .row) (at .inv .1) (at .inv .2) line,
+      line .long ∙ at .inv .2,
+      row-records (begun .args .kind) (begun .args .height) (begun .args .width) (begun .args .start) operand (at .row) (inside .loop-test .taken)
+          (at .inv .1) (at .inv .3) line,
     )
 
 returns : tie.Need-returns Inv-loop μ-loop
@@ -57,13 +58,13 @@ returns c =
     let begun = start (c .before) in
     let all : c .before .loop .first ≡ begun .args .height * begun .args .width =
     c .before .loop .inv .1 ∙ ap (λ n. n * begun .args .width) (omega arith) in
-    rw all at (c .before .loop .inv .2)
+    record { long = c .before .loop .inv .2; wrote = rw all at (c .before .loop .inv .3) }
 
 pub write-operand-spec : {M : Type 1} → statement M
 write-operand-spec =
     tie.close
-    (tie.spec Inv-loop μ-loop (λ c. (omega arith, omega arith, wrote-none (λ k a. omega (arith, a .from, a .below))))
+    (tie.spec Inv-loop μ-loop (λ c. (omega arith, omega arith, omega arith, rows-none))
     (λ c. omega (arith, room c, start (c .before) .pre .count)) (λ c. omega (arith, room (c .before), start (c .before .before) .pre .room))
     (λ c. omega (arith, room (c .before), start (c .before .before) .pre .count)) (λ c. omega arith) (λ c. omega (arith, room (c .before)))
     (λ c. omega (arith, room (c .before), start (c .before .before) .pre .count)) write-line-requires
-    (λ c. omega arith) (λ c. omega arith) loop-again (λ c. c .before .loop .inv .2 .long) returns)
+    (λ c. omega arith) (λ c. omega arith) loop-again (λ c. c .before .loop .inv .2) returns)
