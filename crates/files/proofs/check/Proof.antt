@@ -7,23 +7,8 @@ use Rattle.files.proofs.check.Tie as tie
 returns : tie.Need-returns
 returns c = setting-file-refused _ _ _ (c .if1 .taken)
 
-setting-of-requires : tie.Need-setting-of-requires
-setting-of-requires c κs = search needs
-
-numbers-requires : tie.Need-numbers-requires
-numbers-requires c κs = search needs
-
-count-requires : tie.Need-count-requires
-count-requires c κs = search needs
-
-array-share-prefix-list : tie.Need-array-share-prefix-list
-array-share-prefix-list c = search needs
-
 slice-aggregate-check : tie.Need-slice-aggregate-check
 slice-aggregate-check c = read-long _ (c .before .before .numbers .ensures) (c .before .count .ensures .within) .1
-
-check-requires : tie.Need-check-requires
-check-requires c κs = search needs
 
 returns-2 : tie.Need-returns-2
 returns-2 c =
@@ -34,5 +19,5 @@ returns-2 c =
 pub check-spec : {M : Type 1} → statement M
 check-spec =
     tie.close
-    (tie.spec returns setting-of-requires numbers-requires count-requires array-share-prefix-list slice-aggregate-check
-    check-requires returns-2)
+    (tie.spec returns (λ c κs. search needs) (λ c κs. search needs) (λ c κs. search needs) (λ c. search needs)
+    slice-aggregate-check (λ c κs. search needs) returns-2)

@@ -3,9 +3,6 @@ use Rattle.full.specs.Laws.Claims.{check-refused, check-passed, check-co
 use Rattle.full.proofs.check.Statement.{statement}
 use Rattle.full.proofs.check.Tie as tie
 
-read-requires : tie.Need-read-requires
-read-requires c κs = search needs
-
 returns : tie.Need-returns
 returns c = check-refused _ _ (c .before .before .read .ensures) (c .if1 .taken)
 
@@ -16,4 +13,4 @@ returns-2 : tie.Need-returns-2
 returns-2 c = check-compared _ _ (c .before .before .before .read .ensures) (c .before .if1 .left) (c .check-claims .ensures)
 
 pub check-spec : {M : Type 1} → statement M
-check-spec = tie.close (tie.spec read-requires returns check-claims-requires returns-2)
+check-spec = tie.close (tie.spec (λ c κs. search needs) returns check-claims-requires returns-2)

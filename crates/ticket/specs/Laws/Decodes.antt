@@ -15,7 +15,7 @@
 --   values-B              the values of the records of B
 use Prim.Native.Nat.{ℕ, suc, _+_, _-_, _*_, _/_, _%_, _^_, _≤_, _<_, min}
 use native.Mathlib.Decide.{decLe}
-use native.Mathlib.Nat.{mod-lt, mod-eq-of-lt, div-add-mod', div-lt-iff-lt-mul, mul-le-mul-left, mul-le-mul-right}
+use native.Mathlib.Nat.{mod-eq-of-lt, mul-le-mul-left, mul-le-mul-right}
 use native.Mathlib.Omega.{arith}
 use mathlib.Core.Path.{_≡_, sym, ap, _∙_}
 use mathlib.Core.List.{List}
@@ -30,6 +30,7 @@ use Rattle.residue.specs.Laws.Modulo.{carriedSum, carried-sum, carried-low, car
 use Rattle.residue.specs.Laws.Modulus.{modulus-above, modulus-below, modulus-odd}
 use Rattle.residue.specs.Laws.Residues.{entry-low, entry-high}
 use Rattle.algebra.specs.Laws.Fills.{Filled}
+use Rattle.algebra.specs.Laws.Positions.{by-rows}
 use Rattle.ticket.specs.declared.setting.Setting.{Setting}
 use Rattle.ticket.specs.Rules.{halfRange, lift, parts, part, partSize, ofA, ofB, ofQuotients, ofRemainders, recordBytes, valueAt, valueIn, shiftedQuotient, entryA, entryB, quotient, remainder, claim}
 use Rattle.ticket.specs.Laws.Limits.{half-small, clamped, clamped-same}
@@ -120,12 +121,6 @@ pub record LiftedClaims (G : Setting) (t y : List ℕ) : Type 0 where
   pub each : (i j : ℕ) → i < G .rows → j < G .columns → Lifted G (claim G t i j) (getD y (i * G .columns + j) 0)
 
 module _ {G : Setting} {t : List ℕ} (passed : Passed G t) where
-  -- what holds of every row and column of a part holds of each of its records
-  by-row : (Q : ℕ → Type 0) {rows : ℕ} (columns : ℕ) → 0 < columns → ((i j : ℕ) → i < rows → j < columns → Q (i * columns + j))
-      → (k : ℕ) → k < rows * columns → Q k
-  by-row Q columns wide h k l =
-      rw (div-add-mod' k columns) at (h (k / columns) (k % columns) (div-lt-iff-lt-mul wide .1 l) (mod-lt k wide))
-
   bound-small : (narrowShift ≤ (modulus - 1) / 2) × (G .bound ≤ (modulus - 1) / 2)
   bound-small = omega (arith, modulus-above, passed .numbers .bound)
 
@@ -145,7 +140,7 @@ module _ {G : Setting} {t : List ℕ} (passed : Passed G t) where
         record {
           long = omega (arith, filled .long);
           entry = entry-shifted;
-          small = by-row (λ k. getD a k 0 < 2 ^ 16) (G .inner) (omega (arith, passed .counts .sizes .inner)) (λ i k l m.
+          small = by-rows (λ k. getD a k 0 < 2 ^ 16) (G .inner) (omega (arith, passed .counts .sizes .inner)) (λ i k l m.
               omega (
                 arith,
                 ap positive (entry-shifted i k l m),

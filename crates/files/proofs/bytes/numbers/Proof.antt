@@ -16,23 +16,8 @@ abbrev μ-loop : tie.MeasureT-loop
 loop-holds : tie.Need-loop-holds Inv-loop μ-loop
 loop-holds c = (omega arith, filled-none)
 
-mul-word-at : tie.Need-mul-word-at Inv-loop μ-loop
-mul-word-at c = omega arith
-
-word-at-requires : tie.Need-word-at-requires Inv-loop μ-loop
-word-at-requires c κs = omega arith
-
-mul-list : tie.Need-mul-list Inv-loop μ-loop
-mul-list c = omega arith
-
 array-write-list : tie.Need-array-write-list Inv-loop μ-loop
 array-write-list c = omega (arith, c .before .before .loop .inv .1 .long)
-
-add-k : tie.Need-add-k Inv-loop μ-loop
-add-k c = omega arith
-
-loop-less : tie.Need-loop-less Inv-loop μ-loop
-loop-less c = omega arith
 
 loop-again : tie.Need-loop-again Inv-loop μ-loop
 loop-again c = (omega arith, filled-more (omega arith) (c .before .before .loop .inv .1) (c .word-at .ensures))
@@ -43,4 +28,5 @@ returns c = let filled = c .before .loop .inv .1 in record { long = filled .long
 pub numbers-spec : {M : Type 1} → statement M
 numbers-spec =
     tie.close
-    (tie.spec Inv-loop μ-loop loop-holds mul-word-at word-at-requires mul-list array-write-list add-k loop-less loop-again returns)
+    (tie.spec Inv-loop μ-loop loop-holds (λ c. omega arith) (λ c κs. omega arith) (λ c. omega arith) array-write-list
+    (λ c. omega arith) (λ c. omega arith) loop-again returns)

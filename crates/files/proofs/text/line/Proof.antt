@@ -3,18 +3,6 @@ use Rattle.files.specs.Laws.Lines.{put-line}
 use Rattle.files.proofs.text.line.Statement.{statement}
 use Rattle.files.proofs.text.line.Tie as tie
 
-put-field-requires : tie.Need-put-field-requires
-put-field-requires c κs = search needs
-
-put-field-requires-2 : tie.Need-put-field-requires-2
-put-field-requires-2 c κs = search needs
-
-put-field-requires-3 : tie.Need-put-field-requires-3
-put-field-requires-3 c κs = search needs
-
-put-field-requires-4 : tie.Need-put-field-requires-4
-put-field-requires-4 c κs = search needs
-
 returns : tie.Need-returns
 returns c =
     let place = c .before .before .before .before in
@@ -24,4 +12,4 @@ returns c =
 pub line-spec : {M : Type 1} → statement M
 line-spec =
     tie.close
-    (tie.spec put-field-requires put-field-requires-2 put-field-requires-3 put-field-requires-4 returns)
+    (tie.spec (λ c κs. search needs) (λ c κs. search needs) (λ c κs. search needs) (λ c κs. search needs) returns)

@@ -13,12 +13,6 @@ slice-write-output c =
     let put = c .before .before .put-number in
     omega (arith, put .kept .0, put .ensures .place, number-short _ (start .fits .number .fits), start .pre)
 
-add-result : tie.Need-add-result
-add-result c = search needs
-
-same-length : tie.Need-same-length
-same-length c = search needs
-
 returns : tie.Need-returns
 returns c =
     let start = c .before .before .before .before .before in
@@ -26,5 +20,4 @@ returns c =
     (put-end _ _ (slice-write-output c) put, omega (arith, put .place, number-short _ (start .fits .number .fits)))
 
 pub put-field-spec : {M : Type 1} → statement M
-put-field-spec =
-    tie.close (tie.spec put-number-requires slice-write-output add-result same-length returns)
+put-field-spec = tie.close (tie.spec put-number-requires slice-write-output (λ c. search needs) (λ c. search needs) returns)

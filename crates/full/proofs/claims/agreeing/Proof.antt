@@ -22,9 +22,6 @@ abbrev μ-loop : tie.MeasureT-loop
 abbrev agrees-at : tie.At-loop Inv-loop μ-loop → ℕ → Bool
 agrees-at c = let a = c .before .before .before .before .before .args in claimedFor (a .sums .now) (a .claims .now) (a .lift)
 
-all-agree-requires : tie.Need-all-agree-requires Inv-loop μ-loop
-all-agree-requires c κs = search needs
-
 returns : tie.Need-returns Inv-loop μ-loop
 returns c =
     let all-true = sym (c .before .all-agree .ensures) ∙ c .if1 .taken in
@@ -33,32 +30,11 @@ returns c =
 loop-holds : tie.Need-loop-holds Inv-loop μ-loop
 loop-holds c = (omega arith, sym (all-none _))
 
-mul-wrapping-add-u32 : tie.Need-mul-wrapping-add-u32 Inv-loop μ-loop
-mul-wrapping-add-u32 c = omega arith
-
-shared-slice-read-wrapping-add-u32 : tie.Need-shared-slice-read-wrapping-add-u32 Inv-loop μ-loop
-shared-slice-read-wrapping-add-u32 c = omega arith
-
-wrapping-add-u32-requires : tie.Need-wrapping-add-u32-requires Inv-loop μ-loop
-wrapping-add-u32-requires c κs = search needs
-
-mul-if2 : tie.Need-mul-if2 Inv-loop μ-loop
-mul-if2 c = omega arith
-
-shared-slice-read-if2 : tie.Need-shared-slice-read-if2 Inv-loop μ-loop
-shared-slice-read-if2 c = omega arith
-
 returns-2 : tie.Need-returns-2 Inv-loop μ-loop
 returns-2 c =
     let at = c .before .before .before .before .before in
     sym (first-is _ (at .loop .j) (agrees-at at) (omega arith) (all-at _ _ (at .loop .inv .1))
     (ne-eqb _ _ (λ e. c .if2 .taken (c .before .before .wrapping-add-u32 .ensures ∙ e))))
-
-add-j : tie.Need-add-j Inv-loop μ-loop
-add-j c = omega arith
-
-loop-less : tie.Need-loop-less Inv-loop μ-loop
-loop-less c = omega arith
 
 loop-again : tie.Need-loop-again Inv-loop μ-loop
 loop-again c =
@@ -74,5 +50,6 @@ returns-3 c =
 pub agreeing-spec : {M : Type 1} → statement M
 agreeing-spec =
     tie.close
-    (tie.spec Inv-loop μ-loop all-agree-requires returns loop-holds mul-wrapping-add-u32 shared-slice-read-wrapping-add-u32
-    wrapping-add-u32-requires mul-if2 shared-slice-read-if2 returns-2 add-j loop-less loop-again returns-3)
+    (tie.spec Inv-loop μ-loop (λ c κs. search needs) returns loop-holds (λ c. omega arith) (λ c. omega arith)
+    (λ c κs. search needs) (λ c. omega arith) (λ c. omega arith) returns-2 (λ c. omega arith) (λ c. omega arith) loop-again
+    returns-3)

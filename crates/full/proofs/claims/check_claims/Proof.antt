@@ -4,18 +4,6 @@ use Rattle.full.specs.Laws.Claims.{small-space}
 use Rattle.full.proofs.claims.check_claims.Statement.{statement}
 use Rattle.full.proofs.claims.check_claims.Tie as tie
 
-cast-small : tie.Need-cast-small
-cast-small c = search needs
-
-size-requires : tie.Need-size-requires
-size-requires c κs = search needs
-
-size-requires-2 : tie.Need-size-requires-2
-size-requires-2 c κs = search needs
-
-size-requires-3 : tie.Need-size-requires-3
-size-requires-3 c κs = search needs
-
 check-small-requires : tie.Need-check-small-requires
 check-small-requires c κs =
     let a = c .before .before .before .before .before in
@@ -26,16 +14,8 @@ check-small-requires c κs =
           (leb-true _ _ (c .before .before .if2 .taken)) (leb-true _ _ (c .if3 .taken)),
     )
 
-returns : tie.Need-returns
-returns c = search needs
-
-check-large-requires : tie.Need-check-large-requires
-check-large-requires c κs = search needs
-
-returns-2 : tie.Need-returns-2
-returns-2 c = search needs
-
 pub check-claims-spec : {M : Type 1} → statement M
 check-claims-spec =
     tie.close
-    (tie.spec cast-small size-requires size-requires-2 size-requires-3 check-small-requires returns check-large-requires returns-2)
+    (tie.spec (λ c. search needs) (λ c κs. search needs) (λ c κs. search needs) (λ c κs. search needs) check-small-requires
+    (λ c. search needs) (λ c κs. search needs) (λ c. search needs))

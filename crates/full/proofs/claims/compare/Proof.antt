@@ -31,9 +31,6 @@ lifting c =
     let same = c .lift .ensures ∙ ap lift (clamped-same (limits .sizes) (limits .numbers)) in
     (same, omega (arith, same, lift-small (limits .numbers) (limits .fitted), modulus-below))
 
-lift-requires : tie.Need-lift-requires Inv-loop μ-loop
-lift-requires c κs = search needs
-
 cast-lift : tie.Need-cast-lift Inv-loop μ-loop
 cast-lift c = omega (arith, lifting c)
 
@@ -45,17 +42,8 @@ compare-row-requires c κs =
     let at = c .before .before .before in
     sum-row-ready (rw (at .loop .inv .0) (start (at .before) .pre)) (lifting (at .before) .0) (c .before .if1 .taken) (at .loop .inv .1)
 
-same-length : tie.Need-same-length Inv-loop μ-loop
-same-length c = search needs
-
 returns : tie.Need-returns Inv-loop μ-loop
 returns c = c .before .before .before .before .compare-row .ensures .stopping (c .if2 .taken)
-
-add-row : tie.Need-add-row Inv-loop μ-loop
-add-row c = omega arith
-
-loop-less : tie.Need-loop-less Inv-loop μ-loop
-loop-less c = omega arith
 
 loop-again : tie.Need-loop-again Inv-loop μ-loop
 loop-again c =
@@ -74,5 +62,5 @@ returns-2 c =
 pub compare-spec : {M : Type 1} → statement M
 compare-spec =
     tie.close
-    (tie.spec Inv-loop μ-loop lift-requires cast-lift loop-holds compare-row-requires same-length returns add-row loop-less
-    loop-again same-length-2 returns-2)
+    (tie.spec Inv-loop μ-loop (λ c κs. search needs) cast-lift loop-holds compare-row-requires (λ c. search needs) returns
+    (λ c. omega arith) (λ c. omega arith) loop-again same-length-2 returns-2)

@@ -31,41 +31,8 @@ lists c =
     (parts .before .part3 .ensures) (parts .part4 .ensures) (c .before .before .half .ensures) (of-B c .narrow-entries .ensures)
     (turned c .turn .ensures) (of-A c .narrow-entries2 .ensures) (c .lifted-claims .ensures)
 
-part-requires : tie.Need-part-requires
-part-requires c κs = search needs
-
-part-requires-2 : tie.Need-part-requires-2
-part-requires-2 c κs = search needs
-
-part-requires-3 : tie.Need-part-requires-3
-part-requires-3 c κs = search needs
-
-part-requires-4 : tie.Need-part-requires-4
-part-requires-4 c κs = search needs
-
-narrow-entries-requires : tie.Need-narrow-entries-requires
-narrow-entries-requires c κs = search needs
-
-cast-turn : tie.Need-cast-turn
-cast-turn c = search needs
-
 cast-turn-2 : tie.Need-cast-turn-2
 cast-turn-2 c = omega (arith, start (c .before .before .before .before .before .before) .pre .0 .counts .sizes .columns)
-
-turn-requires : tie.Need-turn-requires
-turn-requires c κs = search needs
-
-narrow-entries-requires-2 : tie.Need-narrow-entries-requires-2
-narrow-entries-requires-2 c κs = search needs
-
-half-requires : tie.Need-half-requires
-half-requires c κs = search needs
-
-lifted-claims-requires : tie.Need-lifted-claims-requires
-lifted-claims-requires c κs = search needs
-
-cast-width : tie.Need-cast-width
-cast-width c = search needs
 
 array-borrow-prefix-sums : tie.Need-array-borrow-prefix-sums
 array-borrow-prefix-sums c =
@@ -85,12 +52,6 @@ same-length c =
     let made = c .before .before .before .before .before .before .before .before .before in
     of-A made .narrow-entries2 .ensures .long ∙ of-B made .narrow-entries .ensures .long
 
-same-length-2 : tie.Need-same-length-2
-same-length-2 c = search needs
-
-same-length-3 : tie.Need-same-length-3
-same-length-3 c = search needs
-
 returns : tie.Need-returns
 returns c =
     let made = c .before .before .before .before .before .before .before .before .before in
@@ -99,6 +60,7 @@ returns c =
 pub decode-and-compare-spec : {M : Type 1} → statement M
 decode-and-compare-spec =
     tie.close
-    (tie.spec part-requires part-requires-2 part-requires-3 part-requires-4 narrow-entries-requires cast-turn cast-turn-2
-    turn-requires narrow-entries-requires-2 half-requires lifted-claims-requires cast-width array-borrow-prefix-sums
-    slice-aggregate-compare compare-requires same-length same-length-2 same-length-3 returns)
+    (tie.spec (λ c κs. search needs) (λ c κs. search needs) (λ c κs. search needs) (λ c κs. search needs) (λ c κs. search needs)
+    (λ c. search needs) cast-turn-2 (λ c κs. search needs) (λ c κs. search needs) (λ c κs. search needs) (λ c κs. search needs)
+    (λ c. search needs) array-borrow-prefix-sums slice-aggregate-compare compare-requires same-length (λ c. search needs)
+    (λ c. search needs) returns)

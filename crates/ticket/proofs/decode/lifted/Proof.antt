@@ -19,4 +19,5 @@ add-whole c = omega (arith, product (c .before))
 
 pub lifted-spec : {M : Type 1} → statement M
 lifted-spec =
-    tie.close (tie.spec (λ c. search needs) mul-whole (λ c. search needs) add-whole (λ c. search needs) (λ c. search needs))
+    tie.close
+    (tie.spec (λ c. search needs) mul-whole (λ c. search needs) add-whole (λ c. search needs) (λ c. search needs))

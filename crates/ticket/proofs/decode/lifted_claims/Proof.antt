@@ -41,6 +41,6 @@ returns c =
 pub lifted-claims-spec : {M : Type 1} → statement M
 lifted-claims-spec =
     tie.close
-    (tie.spec Inv-loop μ-loop (λ c κs. search needs) (λ c κs. search needs) loop-holds
-    (λ c κs. omega arith) (λ c κs. search needs) (λ c κs. omega arith) (λ c κs. search needs) (λ c. omega arith) slice-write-list
-    (λ c. omega arith) (λ c. omega arith) loop-again (λ c. c .before .loop .inv .1 .long) returns)
+    (tie.spec Inv-loop μ-loop (λ c κs. search needs) (λ c κs. search needs) loop-holds (λ c κs. omega arith)
+    (λ c κs. search needs) (λ c κs. omega arith) (λ c κs. search needs) (λ c. omega arith) slice-write-list (λ c. omega arith)
+    (λ c. omega arith) loop-again (λ c. c .before .loop .inv .1 .long) returns)

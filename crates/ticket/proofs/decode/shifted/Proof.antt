@@ -27,4 +27,5 @@ returns c =
 pub shifted-spec : {M : Type 1} → statement M
 shifted-spec =
     tie.close
-    (tie.spec (λ c κs. search needs) add-wrap (λ c κs. search needs) div-wrapping-add-u32 (λ c κs. search needs) (λ c. search needs) returns)
+    (tie.spec (λ c κs. search needs) add-wrap (λ c κs. search needs) div-wrapping-add-u32 (λ c κs. search needs)
+    (λ c. search needs) returns)

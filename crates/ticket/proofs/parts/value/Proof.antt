@@ -14,4 +14,5 @@ returns-2 c = rw (le-leb _ _ (c .before .before .before .before .before .if1 .le
 pub value-spec : {M : Type 1} → statement M
 value-spec =
     tie.close
-    (tie.spec returns (λ c. search needs) (λ c. search needs) (λ c. search needs) (λ c. search needs) (λ c κs. search needs) returns-2)
+    (tie.spec returns (λ c. search needs) (λ c. search needs) (λ c. search needs) (λ c. search needs) (λ c κs. search needs)
+    returns-2)

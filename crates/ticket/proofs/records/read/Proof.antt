@@ -40,6 +40,4 @@ returns-3 c =
     c .read-records .ensures ∙ sym (records-read _ _ (holds (length .before)) (c .before .if2 .left ∙ long length))
 
 pub read-spec : {M : Type 1} → statement M
-read-spec =
-    tie.close
-    (tie.spec (λ c κs. search needs) returns (λ c κs. search needs) returns-2 read-records-requires returns-3)
+read-spec = tie.close (tie.spec (λ c κs. search needs) returns (λ c κs. search needs) returns-2 read-records-requires returns-3)

@@ -39,5 +39,5 @@ returns c =
 pub row-passes-spec : {M : Type 1} → statement M
 row-passes-spec =
     tie.close
-    (tie.spec Inv-loop μ-loop loop-holds record-passes-requires (λ c. omega arith) (λ c. omega arith) (λ c. omega arith) loop-again
-    returns)
+    (tie.spec Inv-loop μ-loop loop-holds record-passes-requires (λ c. omega arith) (λ c. omega arith) (λ c. omega arith)
+    loop-again returns)

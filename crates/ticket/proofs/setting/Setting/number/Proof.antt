@@ -40,4 +40,5 @@ returns-4 c =
 
 pub number-spec : {M : Type 1} → statement M
 number-spec =
-    tie.close (tie.spec (λ c κs. search needs) returns (λ c κs. search needs) returns-2 fits-requires returns-3 returns-4)
+    tie.close
+    (tie.spec (λ c κs. search needs) returns (λ c κs. search needs) returns-2 fits-requires returns-3 returns-4)

@@ -10,4 +10,5 @@ returns c =
 
 pub sizes-within-spec : {M : Type 1} → statement M
 sizes-within-spec =
-    tie.close (tie.spec (λ c κs. search needs) (λ c κs. search needs) (λ c κs. search needs) (λ c κs. search needs) returns)
+    tie.close
+    (tie.spec (λ c κs. search needs) (λ c κs. search needs) (λ c κs. search needs) (λ c κs. search needs) returns)
