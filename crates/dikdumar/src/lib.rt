@@ -31,7 +31,8 @@ pub extern "C" fn dikdumar_write_ticket(
     b: &[i32],
     output: &mut [u8],
 ) -> Answer
-    ensures { λ r. ⌜ (r ≡ writing setting (now (a .entry)) (now (b .entry)) (length (now (output .entry)))) × (now (output .exit) ≡ outputAfter setting (now (a .entry)) (now (b .entry)) (now (output .entry))) ⌝ }
+    ensures { λ r. ⌜ (r ≡ writing setting (now (a .entry)) (now (b .entry)) (length (now (output .entry))))
+        × (now (output .exit) ≡ outputAfter setting (now (a .entry)) (now (b .entry)) (now (output .entry))) ⌝ }
 {
     writer::write(setting, a, b, output)
 }

@@ -17,7 +17,8 @@ mod records;
 // The answer of the writer, for every setting, all operands and every output. Where its number is 0, the output begins with the
 // ticket; otherwise no byte of it is changed.
 pub fn write(setting: Setting, a: &[i32], b: &[i32], output: &mut [u8]) -> Answer
-    ensures { λ r. ⌜ (r ≡ writing setting (now (a .entry)) (now (b .entry)) (length (now (output .entry)))) × (now (output .exit) ≡ outputAfter setting (now (a .entry)) (now (b .entry)) (now (output .entry))) ⌝ }
+    ensures { λ r. ⌜ (r ≡ writing setting (now (a .entry)) (now (b .entry)) (length (now (output .entry))))
+        × (now (output .exit) ≡ outputAfter setting (now (a .entry)) (now (b .entry)) (now (output .entry))) ⌝ }
 {
     let number = setting.number();
     if number != 0 {

@@ -62,8 +62,13 @@ returns-4 c =
     let products = c .products .ensures ∙ ap sumProducts (unclamped w) in
     rw (long (else .before), products) (all-written _ _ _ _ w (room else) (call .write-ticket .ensures))
 
+cast-length : tie.Need-cast-t13
+cast-length c =
+    let test = c .before .before .before .before .before in
+    omega (arith, long test, length-most (counts (limits (writable (test .before)) .sizes)))
+
 pub write-spec : {M : Type 1} → statement M
 write-spec =
     tie.close
     (tie.spec (λ c κs. search needs) returns (λ c κs. limits-of _ (setting c)) returns-2 (λ c κs. search needs) returns-3
-    write-ticket-requires (λ c. omega (arith, long (c .before .before .before .before .before), length-most (counts (limits (writable (c .before .before .before .before .before .before)) .sizes)))) (λ c κs. search needs) (λ c. search needs) returns-4)
+    write-ticket-requires cast-length (λ c κs. search needs) (λ c. search needs) returns-4)

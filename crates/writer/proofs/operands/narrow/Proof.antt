@@ -54,6 +54,7 @@ pub narrow-spec : {M : Type 1} → statement M
 narrow-spec =
     tie.close
     (tie.spec Inv-loop μ-loop (λ c. (omega arith, omega arith, filled-none)) (λ c. omega arith) (λ c. omega arith)
-    (λ c. narrowed-fits (entry (c .before)) (small (c .before))) (λ c. omega (arith, room (c .before))) (λ c. omega (arith, room (c .before), c .before .before .loop .inv .2 .long))
-    (λ c. omega (arith, row-inside (c .before .before .before .args .width) (room (c .before)), c .before .before .before .pre)) (λ c. omega (arith, room (c .before)))
-    (λ c. omega arith) loop-again (λ c. c .before .loop .inv .2 .long) returns)
+    (λ c. narrowed-fits (entry (c .before)) (small (c .before))) (λ c. omega (arith, room (c .before)))
+    (λ c. omega (arith, room (c .before), c .before .before .loop .inv .2 .long))
+    (λ c. omega (arith, row-inside (c .before .before .before .args .width) (room (c .before)), c .before .before .before .pre))
+    (λ c. omega (arith, room (c .before))) (λ c. omega arith) loop-again (λ c. c .before .loop .inv .2 .long) returns)

@@ -68,6 +68,6 @@ returns c =
 pub narrow-columns-spec : {M : Type 1} → statement M
 narrow-columns-spec =
     tie.close
-    (tie.spec Inv-loop μ-loop (λ c. (omega arith, omega arith, filled-none)) (λ c. omega (arith, room c))
-    (λ c. omega (arith, room c)) (λ c. omega (arith, room c)) (λ c. omega (arith, room c)) (λ c. omega (arith, room c, c .before .loop .inv .2 .long)) narrow-requires
+    (tie.spec Inv-loop μ-loop (λ c. (omega arith, omega arith, filled-none)) (λ c. omega (arith, room c)) (λ c. omega (arith, room c))
+    (λ c. omega (arith, room c)) (λ c. omega (arith, room c)) (λ c. omega (arith, room c, c .before .loop .inv .2 .long)) narrow-requires
     (λ c. omega arith) (λ c. omega arith) loop-again (λ c. c .before .loop .inv .2 .long) returns)

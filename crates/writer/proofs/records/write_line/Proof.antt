@@ -57,5 +57,7 @@ write-line-spec =
     tie.close
     (tie.spec Inv-loop μ-loop (λ c κs. search needs)
     (λ c. (omega arith, c .word .ensures, wrote-none (λ k a. omega (arith, a .from, a .below)))) (λ c. omega arith) (λ c. omega arith)
-    (λ c κs. rw (narrowed-is (entry (c .before)) (small (c .before))) (small (c .before))) (λ c. omega (arith, start (c .before .before .before .before) .pre .room))
-    write-record-requires (λ c. omega (arith, start (c .before .before .before .before .before .before .before) .pre .wide)) (λ c. omega arith) (λ c. omega arith) loop-again (λ c. c .before .loop .inv .2 .long) returns)
+    (λ c κs. rw (narrowed-is (entry (c .before)) (small (c .before))) (small (c .before)))
+    (λ c. omega (arith, start (c .before .before .before .before) .pre .room)) write-record-requires
+    (λ c. omega (arith, start (c .before .before .before .before .before .before .before) .pre .wide)) (λ c. omega arith) (λ c. omega arith)
+    loop-again (λ c. c .before .loop .inv .2 .long) returns)
