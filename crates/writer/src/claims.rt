@@ -18,8 +18,10 @@ const ENTRIES: usize = (Setting::MOST_INNER * Setting::MOST_COLUMNS) as usize;
 
 const FEW_ENTRIES: usize = 64;
 
-// The most entries of a row of A.
+// The most entries of a row of A, and the most sums of one.
 const ROW: usize = Setting::MOST_INNER as usize;
+
+const SUMS: usize = Setting::MOST_COLUMNS as usize;
 
 // A claim's two values.
 struct Claim {
@@ -33,26 +35,45 @@ pub(crate) fn write_claims(setting: Setting, a: &[i32], b: &[i32], output: &mut 
     ensures { λ r. ⌜ ClaimsWrote setting (now (a .entry)) (now (b .entry)) (setting .rows) (now (output .entry)) (now (output .exit)) ⌝ }
 {
     let inner = setting.inner as usize;
+    let width = setting.columns as usize;
     let mut line = [0; ROW];
+    let mut sums = [0; SUMS];
     if b.len() <= FEW_ENTRIES {
         let mut columns = [0; FEW_ENTRIES];
-        write_rows(setting, a, b, &mut line[..inner], &mut columns, output);
+        write_rows(
+            setting,
+            a,
+            b,
+            &mut line[..inner],
+            &mut columns,
+            &mut sums[..width],
+            output,
+        );
         return;
     }
     let mut columns = [0; ENTRIES];
-    write_rows(setting, a, b, &mut line[..inner], &mut columns, output);
+    write_rows(
+        setting,
+        a,
+        b,
+        &mut line[..inner],
+        &mut columns,
+        &mut sums[..width],
+        output,
+    );
 }
 
-// The same, row after row, with lists that have room for a row of A and for the columns of B.
+// The same, row after row, with lists that have room for a row of A, for the columns of B and for the sums of a row.
 fn write_rows(
     setting: Setting,
     a: &[i32],
     b: &[i32],
     line: &mut [i16],
     columns: &mut [i16],
+    sums: &mut [u32],
     output: &mut [u8],
 )
-    requires { ⌜ RowsReady setting (now a) (now b) (now line) (now columns) (now output) ⌝ }
+    requires { ⌜ RowsReady setting (now a) (now b) (now line) (now columns) (now sums) (now output) ⌝ }
     ensures { λ r. ⌜ ClaimsWrote setting (now (a .entry)) (now (b .entry)) (setting .rows) (now (output .entry)) (now (output .exit)) ⌝ }
 {
     let half = setting.half();
@@ -67,13 +88,13 @@ fn write_rows(
     while row < height {
         let end = from + line.len();
         narrow(&a[from..end], 1, 0, line);
+        exact::row_sums(line, columns, sums);
         write_row(
             setting,
             half,
             lift,
             row,
-            line,
-            columns,
+            sums,
             quotients,
             remainders,
             output,
@@ -85,36 +106,29 @@ fn write_rows(
     }
 }
 
-// The records of the claims of a row: the quotients from one record on, the remainders from another. The line is the row of A, and
-// each sum is divided right after it is made: the compiler's code then makes the products of the next sum meanwhile.
+// The records of the claims for the sums of a row: the quotients from one record on, the remainders from another.
 fn write_row(
     setting: Setting,
     half: Residue,
     lift: u32,
     row: u8,
-    line: &[i16],
-    columns: &[i16],
+    sums: &[u32],
     quotients: usize,
     remainders: usize,
     output: &mut [u8],
 )
-    requires { ⌜ RowReady setting (half .0) lift (now line) (now columns) quotients remainders (now output) ⌝ }
-    ensures { λ r. ⌜ RowWrote setting row (now (line .entry)) (now (columns .entry)) quotients remainders (now (output .entry)) (now (output .exit)) ⌝ }
+    requires { ⌜ RowReady setting (half .0) lift (now sums) quotients remainders (now output) ⌝ }
+    ensures { λ r. ⌜ RowWrote setting row (now (sums .entry)) quotients remainders (now (output .entry)) (now (output .exit)) ⌝ }
 {
-    let width = setting.columns as usize;
     let mut quotient = ticket::word(3, 0, row, 0);
     let mut remainder = ticket::word(4, 0, row, 0);
-    let mut from = 0;
     let mut column = 0;
-    while column < width {
-        let end = from + line.len();
-        let sum = exact::dot(line, &columns[from..end]);
-        let claim = divide(setting, half, lift, sum);
+    while column < sums.len() {
+        let claim = divide(setting, half, lift, sums[column]);
         write_record(output, quotients + column, quotient, claim.quotient);
         write_record(output, remainders + column, remainder, claim.remainder);
         quotient += COLUMN;
         remainder += COLUMN;
-        from = end;
         column += 1;
     }
 }

@@ -142,18 +142,23 @@ row-sums-ended {row} {columns} {before} {sums} {j} filled whole ended =
       ];
     }
 
+-- a line of numbers, whatever list it is from
+line-exact : (m : ℕ) (x Y : List ℤ) (A B : ℕ → ℕ → ℤ) (i j : ℕ) → length x ≡ m → j * m + m ≤ length Y
+    → ((k : ℕ) → k < m → getD x k (pos 0) ≡ A i k) → ((k : ℕ) → k < m → getD Y (j * m + k) (pos 0) ≡ B k j)
+    → dotProduct x (lineAt Y m j) ≡ leastResidue (2 ^ 32) (matrixProduct m A B i j)
+line-exact m x Y A B i j long inside row column =
+    dot-is m x (lineAt Y m j) (A i) (λ k. B k j) long (part-long Y (j * m) m inside) row (λ k l. part-of Y (j * m) m k (pos 0) l ∙ column k l)
+    ∙ ap (leastResidue (2 ^ 32)) (sym (matrixProduct-is m A B i j))
+
 pub sums-exact : (m : ℕ) (X Y : List ℤ) (A B : ℕ → ℕ → ℤ) (i j : ℕ) → i * m + m ≤ length X → j * m + m ≤ length Y
     → ((k : ℕ) → k < m → getD X (i * m + k) (pos 0) ≡ A i k) → ((k : ℕ) → k < m → getD Y (j * m + k) (pos 0) ≡ B k j)
     → dotProduct (lineAt X m i) (lineAt Y m j) ≡ leastResidue (2 ^ 32) (matrixProduct m A B i j)
 sums-exact m X Y A B i j inside-X inside-Y row column =
-    dot-is m (lineAt X m i) (lineAt Y m j) (A i) (λ k. B k j) (part-long X (i * m) m inside-X) (part-long Y (j * m) m inside-Y)
-    (λ k l. part-of X (i * m) m k (pos 0) l ∙ row k l) (λ k l. part-of Y (j * m) m k (pos 0) l ∙ column k l)
-    ∙ ap (leastResidue (2 ^ 32)) (sym (matrixProduct-is m A B i j))
+    line-exact m (lineAt X m i) Y A B i j (part-long X (i * m) m inside-X) inside-Y (λ k l. part-of X (i * m) m k (pos 0) l ∙ row k l) column
 
-pub row-sums-exact : (m : ℕ) (X : List ℤ) {Y : List ℤ} {before sums : List ℕ} (A B : ℕ → ℕ → ℤ) (i j : ℕ)
-    → RowSums (lineAt X m i) Y before sums → j < length before → i * m + m ≤ length X → j * m + m ≤ length Y
-    → ((k : ℕ) → k < m → getD X (i * m + k) (pos 0) ≡ A i k) → ((k : ℕ) → k < m → getD Y (j * m + k) (pos 0) ≡ B k j)
+pub row-sums-exact : {row Y : List ℤ} {before sums : List ℕ} → RowSums row Y before sums
+    → (m : ℕ) (A B : ℕ → ℕ → ℤ) (i j : ℕ) → length row ≡ m → j < length before → j * m + m ≤ length Y
+    → ((k : ℕ) → k < m → getD row k (pos 0) ≡ A i k) → ((k : ℕ) → k < m → getD Y (j * m + k) (pos 0) ≡ B k j)
     → getD sums j 0 ≡ leastResidue (2 ^ 32) (matrixProduct m A B i j)
-row-sums-exact m X {Y} A B i j all l inside-X inside-Y row column =
-    let long : length (lineAt X m i) ≡ m = part-long X (i * m) m inside-X in
-    (rw long at (all .each j)) l inside-Y ∙ sums-exact m X Y A B i j inside-X inside-Y row column
+row-sums-exact {row} {Y} all m A B i j long l inside row-is column =
+    (rw long at (all .each j)) l inside ∙ line-exact m row Y A B i j long inside row-is column

@@ -1,15 +1,15 @@
 -- The records of the claims, row by row, as the code writes them.
 --
---   RowReady G h l x Y q r o   the row x and the columns Y are whole, and o has room for the claims of a row, from records q and r on
---   RowOf G A B i x Y q r      x is row i of A, Y begins with the columns of B, and q and r are where the claims of row i begin
---   RowTo G i x Y q r n o o'   the first n claims of the row are written, whatever operands these are of
---   RowWrote G i x Y q r o o'  all are
+--   RowReady G h l s q r o     the sums s are those of a whole row, and o has room for their claims, from records q and r on
+--   RowOf G A B i s q r        s is the sums of row i of A, modulo 2^32, and q and r are where the claims of row i begin
+--   RowTo G i s q r n o o'     the first n claims of the row are written, whatever operands these are of
+--   RowWrote G i s q r o o'    all are
 --   row-none, row-claim        no claim of the row is written yet, and one more
---   RowsReady G A B x Y o      A and B are to be written, and there is room for a row of A, for the columns of B and for the ticket
---   RowsAt G i a x q r         before row i: its entries begin at a, its claims at the records q and r, and x has room for the row
---   RowRoom G A i a x q r o    row i is inside A, and the records of its claims are inside the output
+--   RowsReady G A B x Y s o    A and B are to be written; there is room for a row of A, for the columns of B, for sums and for the ticket
+--   RowsAt G i a x s q r       before row i: its entries begin at a, its claims at the records q and r, and x and s have room for the row
+--   RowRoom G A i a x q r      row i is inside A, and the records of its claims come early
 --   ClaimsWrote G A B n o o'   the claims of the first n rows are written
---   rows-begun, row-room, rows-none, rows-next, rows-more   before the first row, before each, and after it
+--   rows-begun, row-room, row-ready, rows-none, rows-next, rows-more   before the first row, before each, and after it
 use Prim.Native.Nat.{ℕ, _+_, _-_, _*_, _^_, _≤_, _<_}
 use native.Mathlib.Omega.{arith}
 use mathlib.Core.Path.{_≡_, sym, ap, _∙_}
@@ -20,50 +20,44 @@ use lib.IntN.{ℤ, pos}
 use lib.ListN.{length, getD, take, drop}
 use Rattle.residue.specs.Rules.{modulus, leastResidue}
 use Rattle.algebra.specs.Rules.{word}
-use Rattle.algebra.specs.Laws.Fills.{Filled, part-of, part-long}
-use Rattle.algebra.specs.Laws.MatrixProducts.{matrixProduct-is}
+use Rattle.algebra.specs.Laws.Fills.{Filled, part-of}
 use Rattle.algebra.specs.Laws.Positions.{row-inside}
-use Rattle.exact.specs.Rules.{dotProduct}
-use Rattle.exact.specs.Laws.Matrices.{turnedNumber}
-use Rattle.exact.specs.Laws.Products.{dot-is}
+use Rattle.exact.specs.Laws.Matrices.{turnedNumber, RowSums, row-sums-exact}
 use Rattle.ticket.specs.declared.setting.Setting.{Setting}
-use Rattle.ticket.specs.Rules.{mostRows, recordBytes, ticketLength, part, start, ofQuotients, ofRemainders}
+use Rattle.ticket.specs.Rules.{mostRows, mostColumns, recordBytes, ticketLength, halfRange, lift, start, ofQuotients, ofRemainders}
 use Rattle.ticket.specs.Laws.Differences.{exactSum-is}
 use Rattle.ticket.specs.Laws.Layout.{parts-are, length-is, PartIs, part-quotients, part-remainders}
-use Rattle.ticket.specs.Laws.Limits.{Sizes, counts, clamped}
+use Rattle.ticket.specs.Laws.Limits.{counts, clamped}
 use Rattle.writer.specs.Rules.{entryOf, sumFor, quotientOf, remainderOf, integerIn, ticketRecord}
 use Rattle.writer.specs.Laws.Answers.{Writable}
-use Rattle.writer.specs.Laws.Claims.{Lifting, Claimed, quotient-true, remainder-true}
-use Rattle.writer.specs.Laws.Entries.{limits, unclamped, long-A, size-sumFor}
+use Rattle.writer.specs.Laws.Claims.{Lifting, Claimed, lifting-of, quotient-true, remainder-true}
+use Rattle.writer.specs.Laws.Entries.{limits, unclamped, long-A, long-B, size-sumFor}
 use Rattle.writer.specs.Laws.Operands.{columnOf}
 use Rattle.writer.specs.Laws.Records.{wordsOf, words-record, record-named, integer-quotient, integer-remainder}
 use Rattle.writer.specs.Laws.Writes.{Wrote, Among, Both, wrote-none, wrote-as, wrote-both, both-on}
 
-pub record RowReady (G : Setting) (half lifting : ℕ) (line columns : List ℤ) (quotients remainders : ℕ) (output : List ℕ) : Type 0 where
-  pub sizes : Sizes G
+pub record RowReady (G : Setting) (half lifting : ℕ) (sums : List ℕ) (quotients remainders : ℕ) (output : List ℕ) : Type 0 where
   pub lifts : Lifting G half lifting
-  pub long-line : length line ≡ G .inner
-  pub long-columns : G .columns * G .inner ≤ length columns
+  pub long-sums : length sums ≡ G .columns
+  pub few : G .columns ≤ mostColumns
   pub room-quotients : recordBytes * (quotients + G .columns) ≤ length output
   pub room-remainders : recordBytes * (remainders + G .columns) ≤ length output
 
-pub record RowOf (G : Setting) (A B : List ℤ) (row : ℕ) (line columns : List ℤ) (quotients remainders : ℕ) : Type 0 where
+pub record RowOf (G : Setting) (A B : List ℤ) (row : ℕ) (sums : List ℕ) (quotients remainders : ℕ) : Type 0 where
   pub writable : Writable G A B
   pub within : row < G .rows
-  pub line-is : (k : ℕ) → k < G .inner → getD line k (pos 0) ≡ entryOf (G .inner) A row k
-  pub columns-are : (k j : ℕ) → k < G .inner → j < G .columns → getD columns (j * G .inner + k) (pos 0) ≡ entryOf (G .columns) B k j
+  pub sums-are : (j : ℕ) → j < G .columns → getD sums j 0 ≡ leastResidue (2 ^ 32) (sumFor G A B row j)
   pub quotients-at : quotients ≡ start G ofQuotients + row * G .columns
   pub remainders-at : remainders ≡ start G ofRemainders + row * G .columns
 
 -- up to column n
-abbrev pub RowTo : Setting → ℕ → List ℤ → List ℤ → ℕ → ℕ → ℕ → List ℕ → List ℕ → Type 0
-RowTo G row line columns quotients remainders n before after =
-    (A B : List ℤ) → RowOf G A B row line columns quotients remainders
-    → Wrote (ticketRecord G A B) (Both quotients remainders n) before after
+abbrev pub RowTo : Setting → ℕ → List ℕ → ℕ → ℕ → ℕ → List ℕ → List ℕ → Type 0
+RowTo G row sums quotients remainders n before after =
+    (A B : List ℤ) → RowOf G A B row sums quotients remainders → Wrote (ticketRecord G A B) (Both quotients remainders n) before after
 
-pub record RowWrote (G : Setting) (row : ℕ) (line columns : List ℤ) (quotients remainders : ℕ) (before after : List ℕ) : Type 0 where
+pub record RowWrote (G : Setting) (row : ℕ) (sums : List ℕ) (quotients remainders : ℕ) (before after : List ℕ) : Type 0 where
   pub long : length after ≡ length before
-  pub wrote : RowTo G row line columns quotients remainders (G .columns) before after
+  pub wrote : RowTo G row sums quotients remainders (G .columns) before after
 
 -- a record of the claims, by its words
 claim-record : (G : Setting) (A B : List ℤ) {w kind : ℕ} → PartIs G w kind (G .rows) (G .columns)
@@ -74,42 +68,27 @@ claim-record G A B {kind = kind} is {row} {column} {value = value} l m first-is 
     words-record kind row column value small-kind small-row small-column header-is
     ∙ record-named G A B is l m value-is (omega (arith, a .from, a .below))
 
-module _ {G : Setting} {row : ℕ} {line columns : List ℤ} {quotients remainders : ℕ} where
-  -- the sum of the line and a column
-  sum-of-row : {A B : List ℤ} → RowOf G A B row line columns quotients remainders → length line ≡ G .inner → G .columns * G .inner ≤ length columns
-      → {column from : ℕ} → column < G .columns → from ≡ column * G .inner
-      → dotProduct line (take (from + length line - from) (drop from columns)) ≡ leastResidue (2 ^ 32) (sumFor G A B row column)
-  sum-of-row {A} {B} of long-line long-columns {column} {from} m from-is =
-      let n = G .inner in
-      let inside = row-inside n m in
-      dot-is n line (take (from + length line - from) (drop from columns)) (entryOf n A row) (λ k. entryOf (G .columns) B k column)
-      long-line (rw long-line (part-long columns from n (omega arith))) (of .line-is)
-      (λ k l. rw long-line (part-of columns from n k (pos 0) l ∙ rw from-is (of .columns-are k column l m)))
-      ∙ ap (leastResidue (2 ^ 32)) (sym (exactSum-is G (entryOf n A) (entryOf (G .columns) B) row column
-      ∙ matrixProduct-is n (entryOf n A) (entryOf (G .columns) B) row column))
-
-  pub row-none : {before : List ℕ} → RowTo G row line columns quotients remainders 0 before before
+module _ {G : Setting} {row : ℕ} {sums : List ℕ} {quotients remainders : ℕ} where
+  pub row-none : {before : List ℕ} → RowTo G row sums quotients remainders 0 before before
   row-none A B of = wrote-none (λ k. ⊎-elim (λ a. omega (arith, a .from, a .below)) (λ a. omega (arith, a .from, a .below)))
 
-  pub row-claim : {half lifting : ℕ} {before output between after : List ℕ} {column from sum q r x y : ℕ}
-      → RowReady G half lifting line columns quotients remainders before → row < 256 → column < G .columns → from ≡ column * G .inner
-      → RowTo G row line columns quotients remainders column before output
-      → sum ≡ dotProduct line (take (from + length line - from) (drop from columns)) → Claimed G sum q r
+  pub row-claim : {half lifting : ℕ} {before output between after : List ℕ} {column q r x y : ℕ}
+      → RowReady G half lifting sums quotients remainders before → row < 256 → column < length sums
+      → RowTo G row sums quotients remainders column before output → Claimed G (getD sums column 0) q r
       → x ≡ word 3 0 row column → y ≡ word 4 0 row column → Wrote (λ k. wordsOf x q) (Among (quotients + column) 1) output between
       → Wrote (λ k. wordsOf y r) (Among (remainders + column) 1) between after
-      → RowTo G row line columns quotients remainders (column + 1) before after
+      → RowTo G row sums quotients remainders (column + 1) before after
   unfolding quotientOf remainderOf
-  row-claim {column = column} {sum = sum} ready small m from-is so-far sum-dot claimed x-is y-is first second A B of =
-      let sizes = ready .sizes in
+  row-claim {column = column} ready small l so-far claimed x-is y-is first second A B of =
+      let m : column < G .columns = omega (arith, ready .long-sums) in
       let within = limits (of .writable) in
-      let sum-exact : sum ≡ leastResidue (2 ^ 32) (sumFor G A B row column) =
-      sum-dot ∙ sum-of-row of (ready .long-line) (ready .long-columns) m from-is in
+      let S = sumFor G A B row column in
       let size = size-sumFor (of .writable) row column (of .within) m in
-      let quotient = claimed .quotient-is ∙ quotient-true (within .numbers) (within .fitted) (sumFor G A B row column) size sum-exact
+      let quotient = claimed .quotient-is ∙ quotient-true (within .numbers) (within .fitted) S size (of .sums-are column m)
       ∙ ap (leastResidue modulus) (sym (integer-quotient G A B row column)) in
-      let remainder = claimed .remainder-is ∙ remainder-true (within .numbers) (within .fitted) (sumFor G A B row column) size sum-exact
+      let remainder = claimed .remainder-is ∙ remainder-true (within .numbers) (within .fitted) S size (of .sums-are column m)
       ∙ ap (leastResidue modulus) (sym (integer-remainder G A B row column)) in
-      let few : column < 256 = omega (arith, sizes .columns) in
+      let few : column < 256 = omega (arith, ready .few) in
       both-on (so-far A B of)
       (wrote-both
       (wrote-as first (claim-record G A B (part-quotients G) (of .within) m (of .quotients-at) (omega arith) small few x-is quotient))
@@ -117,68 +96,81 @@ module _ {G : Setting} {row : ℕ} {line columns : List ℤ} {quotients remainde
 
 -- all rows
 
-pub record RowsReady (G : Setting) (A B line columns : List ℤ) (output : List ℕ) : Type 0 where
+pub record RowsReady (G : Setting) (A B line columns : List ℤ) (sums output : List ℕ) : Type 0 where
   pub writable : Writable G A B
   pub long-line : length line ≡ G .inner
   pub long-columns : length B ≤ length columns
+  pub long-sums : length sums ≡ G .columns
   pub long-output : ticketLength G ≤ length output
 
-pub record RowsAt (G : Setting) (row from : ℕ) (line : List ℤ) (quotients remainders : ℕ) : Type 0 where
+pub record RowsAt (G : Setting) (row from : ℕ) (line : List ℤ) (sums : List ℕ) (quotients remainders : ℕ) : Type 0 where
   pub within : row ≤ G .rows
   pub from-is : from ≡ row * G .inner
   pub long-line : length line ≡ G .inner
+  pub long-sums : length sums ≡ G .columns
   pub quotients-at : quotients ≡ start G ofQuotients + row * G .columns
   pub remainders-at : remainders ≡ start G ofRemainders + row * G .columns
 
-pub record RowRoom (G : Setting) (A : List ℤ) (row from : ℕ) (line : List ℤ) (quotients remainders : ℕ) (output : List ℕ) : Type 0 where
+pub record RowRoom (G : Setting) (A : List ℤ) (row from : ℕ) (line : List ℤ) (quotients remainders : ℕ) : Type 0 where
   pub in-A : from + length line ≤ length A
   pub few : row < mostRows
   pub early : (quotients + G .columns < 2 ^ 16) × (remainders + G .columns < 2 ^ 16)
-  pub room-quotients : recordBytes * (quotients + G .columns) ≤ length output
-  pub room-remainders : recordBytes * (remainders + G .columns) ≤ length output
 
 abbrev pub ClaimsWrote : Setting → List ℤ → List ℤ → ℕ → List ℕ → List ℕ → Type 0
 ClaimsWrote G A B rows = Wrote (ticketRecord G A B) (Both (start G ofQuotients) (start G ofRemainders) (rows * G .columns))
 
-module _ {G : Setting} {A B line columns : List ℤ} {before : List ℕ} (ready : RowsReady G A B line columns before) where
+module _ {G : Setting} {A B line columns : List ℤ} {sums before : List ℕ} (ready : RowsReady G A B line columns sums before) where
   pub rows-begun : {quotients remainders : ℕ} → quotients ≡ start (clamped G) ofQuotients → remainders ≡ start (clamped G) ofRemainders
-      → RowsAt G 0 0 line quotients remainders
+      → RowsAt G 0 0 line sums quotients remainders
   rows-begun q-is r-is =
       let same = unclamped (ready .writable) in
       record {
         within = omega arith;
         from-is = omega arith;
         long-line = ready .long-line;
+        long-sums = ready .long-sums;
         quotients-at = q-is ∙ ap (λ H. start H ofQuotients) same ∙ omega arith;
         remainders-at = r-is ∙ ap (λ H. start H ofRemainders) same ∙ omega arith;
       }
 
-  pub row-room : {row from quotients remainders : ℕ} {here : List ℤ} {output : List ℕ} → RowsAt G row from here quotients remainders
-      → row < G .rows → length output ≡ length before → RowRoom G A row from here quotients remainders output
-  row-room at l same =
-      let line = row-inside (G .inner) l in
-      let claims = row-inside (G .columns) l in
-      let few = counts (limits (ready .writable) .sizes) in
-      record {
-        in-A = omega (arith, long-A (ready .writable), at);
-        few = omega (arith, few .sizes .rows);
-        early = omega (arith, parts-are G, few, at);
-        room-quotients = omega (arith, parts-are G, length-is G, at, ready .long-output);
-        room-remainders = omega (arith, parts-are G, length-is G, at, ready .long-output);
-      }
+  module _ {row from quotients remainders : ℕ} {here : List ℤ} {made : List ℕ} (at : RowsAt G row from here made quotients remainders)
+      (l : row < G .rows) where
+    pub row-room : RowRoom G A row from here quotients remainders
+    row-room =
+        let line = row-inside (G .inner) l in
+        let claims = row-inside (G .columns) l in
+        let few = counts (limits (ready .writable) .sizes) in
+        record {
+          in-A = omega (arith, long-A (ready .writable), at);
+          few = omega (arith, few .sizes .rows);
+          early = omega (arith, parts-are G, few, at);
+        }
+
+    pub row-ready : {half lifting : ℕ} {now output : List ℕ} → half ≡ halfRange (clamped G) → lifting ≡ lift (clamped G)
+        → length now ≡ length made → length output ≡ length before → RowReady G half lifting now quotients remainders output
+    row-ready half-is lift-is long same =
+        let claims = row-inside (G .columns) l in
+        record {
+          lifts = lifting-of (limits (ready .writable)) half-is lift-is;
+          long-sums = long ∙ at .long-sums;
+          few = limits (ready .writable) .sizes .columns .1;
+          room-quotients = omega (arith, parts-are G, length-is G, at, ready .long-output);
+          room-remainders = omega (arith, parts-are G, length-is G, at, ready .long-output);
+        }
 
 pub rows-none : (G : Setting) (A B : List ℤ) {before : List ℕ} → ClaimsWrote G A B 0 before before
 rows-none G A B = wrote-none (λ k. ⊎-elim (λ a. omega (arith, a .from, a .below)) (λ a. omega (arith, a .from, a .below)))
 
-module _ {G : Setting} {row from quotients remainders : ℕ} {slice line : List ℤ} (at : RowsAt G row from slice quotients remainders)
-    (l : row < G .rows) where
-  pub rows-next : length line ≡ length slice
-      → RowsAt G (row + 1) (from + length slice) line (quotients + G .columns) (remainders + G .columns)
-  rows-next long =
+module _ {G : Setting} {row from quotients remainders : ℕ} {slice line : List ℤ} {old sums : List ℕ}
+    (at : RowsAt G row from slice old quotients remainders) (l : row < G .rows) where
+  pub rows-next : length line ≡ length slice → length sums ≡ length old
+      → RowsAt G (row + 1) (from + length slice) line sums (quotients + G .columns) (remainders + G .columns)
+  rows-next long-line long-sums =
       record {
         within = omega arith;
         from-is = omega (arith, at .from-is, at .long-line);
-        long-line = long ∙ at .long-line;
+        long-line = long-line ∙ at .long-line;
+        long-sums = long-sums ∙ at .long-sums;
         quotients-at = omega (arith, at .quotients-at);
         remainders-at = omega (arith, at .remainders-at);
       }
@@ -186,19 +178,26 @@ module _ {G : Setting} {row from quotients remainders : ℕ} {slice line : List 
   -- the row of A and the columns of B, as they were narrowed
   pub rows-more : {A B kept columns : List ℤ} {before output after : List ℕ} → Writable G A B
       → Filled (pos 0) slice (length slice) (columnOf (take (from + length slice - from) (drop from A)) 1 0) line
-      → Filled (pos 0) kept (G .columns * G .inner) (turnedNumber B (G .inner) (G .columns)) columns
-      → ClaimsWrote G A B row before output → RowWrote G row line columns quotients remainders output after
+      → Filled (pos 0) kept (G .columns * G .inner) (turnedNumber B (G .inner) (G .columns)) columns → length B ≤ length kept
+      → RowSums line columns old sums → ClaimsWrote G A B row before output → RowWrote G row sums quotients remainders output after
       → ClaimsWrote G A B (row + 1) before after
-  rows-more {A} {B} {columns = columns} writable row-filled filled so-far row-wrote =
+  rows-more {A} {B} {columns = columns} writable row-filled filled room summed so-far row-wrote =
+      let m = G .inner in
+      let X = entryOf m A in
+      let Y = entryOf (G .columns) B in
       let next : row * G .columns + G .columns ≡ (row + 1) * G .columns = omega arith in
-      let of : RowOf G A B row line columns quotients remainders = record {
+      let sum : (j : ℕ) → j < G .columns → getD sums j 0 ≡ leastResidue (2 ^ 32) (sumFor G A B row j) =
+      λ j h. row-sums-exact summed m X Y row j (row-filled .long ∙ at .long-line) (omega (arith, at .long-sums))
+      (omega (arith, row-inside m h, long-B writable, filled .long))
+      (λ k n. let same : k * 1 + 0 ≡ k = omega arith in
+      let inside : k < length slice = omega (arith, at .long-line) in
+      row-filled .each k inside ∙ rw (same, part-of A from (length slice) k (pos 0) inside, at .from-is))
+      (λ k n. filled .each (j * m + k) (digits-lt h n) ∙ rw (digits-mod j n, digits-div j n))
+      ∙ ap (leastResidue (2 ^ 32)) (sym (exactSum-is G X Y row j)) in
+      let of : RowOf G A B row sums quotients remainders = record {
         writable = writable;
         within = l;
-        line-is = λ k h.
-            let same : k * 1 + 0 ≡ k = omega arith in
-            let inside : k < length slice = omega (arith, at .long-line) in
-            row-filled .each k inside ∙ rw (same, part-of A from (length slice) k (pos 0) inside, at .from-is);
-        columns-are = λ k j h m. filled .each (j * G .inner + k) (digits-lt m h) ∙ rw (digits-mod j h, digits-div j h);
+        sums-are = sum;
         quotients-at = at .quotients-at;
         remainders-at = at .remainders-at;
       } in
