@@ -32,35 +32,20 @@ writable c =
 long : (c : tie.After-length) → c .length .result ≡ ticketLength (start (numbered c) .args .setting)
 long c = c .length .ensures ∙ ap ticketLength (unclamped (writable (c .before)))
 
-returns : tie.Need-returns
-returns c =
-    let begun = start (c .before) in
-    refused _ _ _ (begun .args .output .now) (setting-refused _ _ _ _ (sym (c .before .number .ensures)) (c .if1 .taken)) (c .if1 .taken)
-
-returns-2 : tie.Need-returns-2
-returns-2 c =
-    let read = c .before .before in
-    refused _ _ _ _ (operands-refused _ _ _ _ (setting (read .before)) (sym (read .read .ensures)) (c .if2 .taken)) (c .if2 .taken)
-
-returns-3 : tie.Need-returns-3
-returns-3 c =
-    let begun = start (numbered (c .before)) in
-    let short : length (begun .args .output .now) < ticketLength (begun .args .setting) = omega (arith, c .if3 .taken, long (c .before)) in
-    refused _ _ _ (begun .args .output .now) (writing-of _ _ _ _ (output-short (writable (c .before .before)) short)) (λ z. omega arith)
-
 room : (c : tie.Else3) → ticketLength (start (numbered (c .before)) .args .setting) ≤ length (start (numbered (c .before)) .args .output .now)
 room c = omega (arith, c .if3 .left, long (c .before))
 
-write-ticket-requires : tie.Need-write-ticket-requires
-write-ticket-requires c κs = (writable (c .before .before .before), room (c .before))
+returns-3 : tie.Need-returns-3
+returns-3 c =
+    let short : length (start (numbered (c .before)) .args .output .now) < ticketLength (start (numbered (c .before)) .args .setting) =
+    omega (arith, c .if3 .taken, long (c .before)) in
+    refused _ _ _ _ (writing-of _ _ _ _ (output-short (writable (c .before .before)) short)) (λ z. omega arith)
 
 returns-4 : tie.Need-returns-4
 returns-4 c =
-    let call = c .before .before .before in
-    let else = call .before .before in
+    let else = c .before .before .before .before .before in
     let w = writable (else .before .before) in
-    let products = c .products .ensures ∙ ap sumProducts (unclamped w) in
-    rw (long (else .before), products) (all-written _ _ _ _ w (room else) (call .write-ticket .ensures))
+    rw (long (else .before), c .products .ensures ∙ ap sumProducts (unclamped w)) (all-written _ _ _ _ w (room else) (c .before .before .before .write-ticket .ensures))
 
 cast-length : tie.Need-cast-t13
 cast-length c =
@@ -70,5 +55,7 @@ cast-length c =
 pub write-spec : {M : Type 1} → statement M
 write-spec =
     tie.close
-    (tie.spec (λ c κs. search needs) returns (λ c κs. limits-of _ (setting c)) returns-2 (λ c κs. search needs) returns-3
-    write-ticket-requires cast-length (λ c κs. search needs) (λ c. search needs) returns-4)
+    (tie.spec (λ c κs. search needs) (λ c. refused _ _ _ _ (setting-refused _ _ _ _ (sym (c .before .number .ensures)) (c .if1 .taken)) (c .if1 .taken))
+    (λ c κs. limits-of _ (setting c)) (λ c. refused _ _ _ _ (operands-refused _ _ _ _ (setting (c .before .before .before)) (sym (c .before .before .read .ensures)) (c .if2 .taken)) (c .if2 .taken))
+    (λ c κs. search needs) returns-3 (λ c κs. (writable (c .before .before .before), room (c .before))) cast-length (λ c κs. search needs)
+    (λ c. search needs) returns-4)

@@ -1,22 +1,24 @@
 -- What operands give that pass the tests.
 --
 --   limits, unclamped      the setting is within its limits
+--   lift-fits              its lift is a number of 32 bits
 --   long-A, long-B         how many entries the operands have
 --   small-A, small-B       the entries have at most 15 bits
 --   size-A, size-B         they are at most the bound in size, by row and column
 --   size-sumFor            an exact sum is at most as large as a sum can be
-use Prim.Native.Nat.{ℕ, _+_, _*_, _≤_, _<_}
+use Prim.Native.Nat.{ℕ, _+_, _*_, _≤_, _<_, _^_}
 use native.Mathlib.Omega.{arith}
-use mathlib.Core.Path.{_≡_, _∙_}
+use mathlib.Core.Path.{_≡_, ap, _∙_}
 use mathlib.Core.List.{List}
 use lib.Arith.{digits-lt}
 use lib.IntN.{ℤ, natAbs}
 use lib.ListN.{length}
+use Rattle.residue.specs.Laws.Modulus.{modulus-below}
 use Rattle.ticket.specs.declared.setting.Setting.{Setting}
-use Rattle.ticket.specs.Rules.{reach}
+use Rattle.ticket.specs.Rules.{reach, lift}
 use Rattle.ticket.specs.Laws.Differences.{size-sum-of}
 use Rattle.ticket.specs.Laws.Layout.{parts-are}
-use Rattle.ticket.specs.Laws.Limits.{Within, limits-of, clamped, clamped-same}
+use Rattle.ticket.specs.Laws.Limits.{Within, limits-of, clamped, clamped-same, lift-small}
 use Rattle.writer.specs.Rules.{entryOf, sumFor}
 use Rattle.writer.specs.Laws.Answers.{Writable}
 use Rattle.writer.specs.Laws.Operands.{SmallEntries}
@@ -27,6 +29,9 @@ module _ {G : Setting} {A B : List ℤ} (w : Writable G A B) where
 
   pub unclamped : clamped G ≡ G
   unclamped = clamped-same (limits .sizes) (limits .numbers)
+
+  pub lift-fits : {n : ℕ} → n ≡ lift (clamped G) → n < 2 ^ 32
+  lift-fits e = omega (arith, e ∙ ap lift unclamped, lift-small (limits .numbers) (limits .fitted), modulus-below)
 
   pub long-A : length A ≡ G .rows * G .inner
   long-A = w .long-A ∙ parts-are G .size-A

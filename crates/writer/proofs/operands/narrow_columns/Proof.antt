@@ -33,29 +33,16 @@ long c =
     let at = c .before .loop in
     part-long (at .list) (at .start) (c .before .before .args .height) (omega (arith, room c, at .inv .2 .long))
 
-narrow-requires : tie.Need-narrow-requires Inv-loop μ-loop
-narrow-requires c κs =
-    let pre = c .before .before .before .pre in
-    record {
-      entries = pre .entries;
-      long = pre .long ∙ ap (λ n. n * c .before .before .before .args .width) (sym (long (c .before)));
-      inside = c .before .loop-test .taken;
-    }
-
 loop-again : tie.Need-loop-again Inv-loop μ-loop
 loop-again c =
     let inside = c .before .before .before in
     let at = inside .before .loop in
-    let begun = inside .before .before in
-    let height = begun .args .height in
-    let filled = rw (long inside) at (c .before .narrow .ensures) in
-    let same : (i : ℕ) → i < height → columnOf (begun .args .matrix .now) (begun .args .width) (at .column) i
-    ≡ turnedNumber (begun .args .matrix .now) height (begun .args .width) (at .start + i) =
-    λ i l. sym (rw (at .inv .1, digits-mod (at .column) l, digits-div (at .column) l)) in
-    let fits : at .start + height ≤ length (at .list) = omega (arith, room inside, at .inv .2 .long) in (
+    let filled = rw (long inside) at (c .before .narrow .ensures) in (
       omega arith,
       omega (arith, at .inv .1),
-      filled-part (at .inv .2) filled (part-replaced (pos 0) (at .list) (at .start) height _ (filled .long ∙ long inside) fits) same,
+      filled-part (at .inv .2) filled
+          (part-replaced (pos 0) (at .list) (at .start) _ _ (filled .long ∙ long inside) (omega (arith, room inside, at .inv .2 .long)))
+          (λ i l. sym (rw (at .inv .1, digits-mod (at .column) l, digits-div (at .column) l))),
     )
 
 returns : tie.Need-returns Inv-loop μ-loop
@@ -69,5 +56,6 @@ pub narrow-columns-spec : {M : Type 1} → statement M
 narrow-columns-spec =
     tie.close
     (tie.spec Inv-loop μ-loop (λ c. (omega arith, omega arith, filled-none)) (λ c. omega (arith, room c)) (λ c. omega (arith, room c))
-    (λ c. omega (arith, room c)) (λ c. omega (arith, room c)) (λ c. omega (arith, room c, c .before .loop .inv .2 .long)) narrow-requires
+    (λ c. omega (arith, room c)) (λ c. omega (arith, room c)) (λ c. omega (arith, room c, c .before .loop .inv .2 .long))
+    (λ c κs. record { entries = search; long = search (long (c .before)); inside = search })
     (λ c. omega arith) (λ c. omega arith) loop-again (λ c. c .before .loop .inv .2 .long) returns)

@@ -29,22 +29,15 @@ entry c = getD (start (c .before) .args .entries .now) (c .before .loop .column)
 small : (c : tie.In-loop Inv-loop μ-loop) → natAbs (entry c) < 2 ^ 15
 small c = start (c .before) .pre .entries-small .small (c .before .loop .column) (c .loop-test .taken)
 
-write-record-requires : tie.Need-write-record-requires Inv-loop μ-loop
-write-record-requires c κs =
-    let at = c .before .before .before .before in
-    omega (arith, at .loop .inv .2 .long, start at .pre .room, c .before .before .before .loop-test .taken)
-
 loop-again : tie.Need-loop-again Inv-loop μ-loop
 loop-again c =
     let inside = c .before .before .before .before .before .before in
     let at = inside .before in
-    let begun = start at in
-    let read = narrowed-is (entry inside) (small inside) in
-    let value = c .before .before .before .before .residue .ensures ∙ ap (leastResidue modulus) read in (
+    let value = c .before .before .before .before .residue .ensures ∙ ap (leastResidue modulus) (narrowed-is (entry inside) (small inside)) in (
       omega arith,
       omega (arith, at .loop .inv .1),
-      line-record (begun .args .kind) (begun .args .row) (begun .args .first) (begun .args .entries .now) (at .loop .inv .2)
-          (c .before .before .write-record .ensures) (search needs) (search needs) (omega (arith, begun .pre .wide)) (at .loop .inv .1) value,
+      line-record _ _ _ (start at .args .entries .now) (at .loop .inv .2) (c .before .before .write-record .ensures) (search needs) (search needs) (omega (arith, start at .pre .wide))
+          (at .loop .inv .1) value,
     )
 
 returns : tie.Need-returns Inv-loop μ-loop
@@ -58,6 +51,7 @@ write-line-spec =
     (tie.spec Inv-loop μ-loop (λ c κs. search needs)
     (λ c. (omega arith, c .word .ensures, wrote-none (λ k a. omega (arith, a .from, a .below)))) (λ c. omega arith) (λ c. omega arith)
     (λ c κs. rw (narrowed-is (entry (c .before)) (small (c .before))) (small (c .before)))
-    (λ c. omega (arith, start (c .before .before .before .before) .pre .room)) write-record-requires
+    (λ c. omega (arith, start (c .before .before .before .before) .pre .room))
+    (λ c κs. let at = c .before .before .before .before in omega (arith, at .loop .inv .2 .long, start at .pre .room, c .before .before .before .loop-test .taken))
     (λ c. omega (arith, start (c .before .before .before .before .before .before .before) .pre .wide)) (λ c. omega arith) (λ c. omega arith)
     loop-again (λ c. c .before .loop .inv .2 .long) returns)

@@ -2,7 +2,7 @@
 use Prim.Native.Nat.{_+_, _-_, _*_, _≤_, _<_}
 use native.Mathlib.Omega.{arith}
 use mathlib.Core.Path.{_≡_, ap, _∙_}
-use lib.ListN.{length}
+use lib.ListN.{length, take, drop}
 use Rattle.algebra.specs.Laws.Fills.{part-long}
 use Rattle.algebra.specs.Laws.Positions.{row-inside}
 use Rattle.writer.specs.Laws.Lines.{OperandTo, rows-none, row-records}
@@ -25,33 +25,21 @@ room : (c : tie.In-loop Inv-loop μ-loop) → let begun = start (c .before) in
     c .before .loop .first + begun .args .width ≤ begun .args .height * begun .args .width
 room c = omega (arith, row-inside (start (c .before) .args .width) (c .loop-test .taken), c .before .loop .inv .1)
 
-write-line-requires : tie.Need-write-line-requires Inv-loop μ-loop
-write-line-requires c κs =
-    let at = c .before .before .before in
-    let pre = start at .pre in
-    let fits : at .loop .first + start at .args .width ≤ length (start at .args .operand .now) =
-    omega (arith, room (c .before .before), pre .count) in
-    let long = part-long (start at .args .operand .now) (at .loop .first) (start at .args .width) fits in
-    record {
-      entries-small = small-part (at .loop .first) (start at .args .width) (pre .entries-small) fits;
-      wide = omega (arith, pre .wide);
-      room = omega (arith, pre .room, room (c .before .before), at .loop .inv .2);
-    }
+-- its entries
+fits : (c : tie.In-loop Inv-loop μ-loop) → let begun = start (c .before) in
+    c .before .loop .first + begun .args .width ≤ length (begun .args .operand .now)
+fits c = omega (arith, room c, start (c .before) .pre .count)
+
+long : (c : tie.In-loop Inv-loop μ-loop) → let begun = start (c .before) in let at = c .before .loop in
+    length (take (at .first + begun .args .width - at .first) (drop (at .first) (begun .args .operand .now))) ≡ begun .args .width
+long c = part-long _ _ _ (fits c)
 
 loop-again : tie.Need-loop-again Inv-loop μ-loop
 loop-again c =
     let inside = c .before .before .before .before .before in
     let at = inside .before .loop in
-    let begun = start (inside .before) in
-    let operand = begun .args .operand .now in
-    let fits : at .first + begun .args .width ≤ length operand = omega (arith, room inside, begun .pre .count) in
-    let line = rw (part-long operand (at .first) (begun .args .width) fits) at (c .before .before .write-line .ensures) in (
-      omega arith,
-      omega (arith, at .inv .1),
-      line .long ∙ at .inv .2,
-      row-records (begun .args .kind) (begun .args .height) (begun .args .width) (begun .args .start) operand (at .row) (inside .loop-test .taken)
-          (at .inv .1) (at .inv .3) line,
-    )
+    let line = rw (long inside) at (c .before .before .write-line .ensures) in
+    (omega arith, omega (arith, at .inv .1), line .long ∙ at .inv .2, search (row-records, line))
 
 returns : tie.Need-returns Inv-loop μ-loop
 returns c =
@@ -66,5 +54,10 @@ write-operand-spec =
     (tie.spec Inv-loop μ-loop (λ c. (omega arith, omega arith, omega arith, rows-none))
     (λ c. omega (arith, room c, start (c .before) .pre .count)) (λ c. omega (arith, room (c .before), start (c .before .before) .pre .room))
     (λ c. omega (arith, room (c .before), start (c .before .before) .pre .count)) (λ c. omega arith) (λ c. omega (arith, room (c .before)))
-    (λ c. omega (arith, room (c .before), start (c .before .before) .pre .count)) write-line-requires
+    (λ c. omega (arith, room (c .before), start (c .before .before) .pre .count))
+    (λ c κs. let inside = c .before .before in record {
+      entries-small = small-part _ _ (search) (fits inside);
+      wide = omega (arith, long inside, start (inside .before) .pre .wide);
+      room = omega (arith, long inside, room inside, start (inside .before) .pre .room, inside .before .loop .inv .2);
+    })
     (λ c. omega arith) (λ c. omega arith) loop-again (λ c. c .before .loop .inv .2) returns)
