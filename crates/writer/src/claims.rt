@@ -4,7 +4,7 @@ ghost use lib.ListN.{length};
 ghost use Rattle.ticket.specs.Rules.{ticketLength};
 ghost use Rattle.writer.specs.Laws.Answers.{Writable};
 ghost use Rattle.writer.specs.Laws.Claims.{Lifting, Claimed};
-ghost use Rattle.writer.specs.Laws.Rows.{ClaimsWrote, RowReady, RowsReady, RowWrote};
+ghost use Rattle.writer.specs.Laws.Rows.{ClaimsWrote, RowReady, Room, RowsReady, RowWrote};
 use crate::operands::narrow;
 use crate::operands::narrow_columns;
 use crate::records::COLUMN;
@@ -13,15 +13,17 @@ use residue::Residue;
 use ticket::PartNumber;
 use ticket::Setting;
 
-// The most entries of B. Of at most so few the columns are held in a small array, which is cleared sooner.
+// The most entries of B, and of a row of A; the most sums of a row. Where B has few entries, all is held in small arrays, which are
+// cleared sooner.
 const ENTRIES: usize = (Setting::MOST_INNER * Setting::MOST_COLUMNS) as usize;
 
-const FEW_ENTRIES: usize = 64;
-
-// The most entries of a row of A, and the most sums of one.
 const ROW: usize = Setting::MOST_INNER as usize;
 
 const SUMS: usize = Setting::MOST_COLUMNS as usize;
+
+const SMALL: usize = 64;
+
+const TINY: usize = 8;
 
 // A claim's two values.
 struct Claim {
@@ -34,36 +36,51 @@ pub(crate) fn write_claims(setting: Setting, a: &[i32], b: &[i32], output: &mut 
     requires { ⌜ Writable setting (now a) (now b) × (ticketLength setting ≤ length (now output)) ⌝ }
     ensures { λ r. ⌜ ClaimsWrote setting (now (a .entry)) (now (b .entry)) (setting .rows) (now (output .entry)) (now (output .exit)) ⌝ }
 {
-    let inner = setting.inner as usize;
-    let width = setting.columns as usize;
+    if b.len() <= TINY {
+        let mut line = [0; TINY];
+        let mut columns = [0; TINY];
+        let mut sums = [0; TINY];
+        write_with(setting, a, b, &mut line, &mut columns, &mut sums, output);
+        return;
+    }
     let mut line = [0; ROW];
     let mut sums = [0; SUMS];
-    if b.len() <= FEW_ENTRIES {
-        let mut columns = [0; FEW_ENTRIES];
-        write_rows(
-            setting,
-            a,
-            b,
-            &mut line[..inner],
-            &mut columns,
-            &mut sums[..width],
-            output,
-        );
+    if b.len() <= SMALL {
+        let mut columns = [0; SMALL];
+        write_with(setting, a, b, &mut line, &mut columns, &mut sums, output);
         return;
     }
     let mut columns = [0; ENTRIES];
+    write_with(setting, a, b, &mut line, &mut columns, &mut sums, output);
+}
+
+// The same, with lists that have room for a row of A, for the columns of B and for the sums of a row.
+fn write_with(
+    setting: Setting,
+    a: &[i32],
+    b: &[i32],
+    line: &mut [i16],
+    columns: &mut [i16],
+    sums: &mut [u32],
+    output: &mut [u8],
+)
+    requires { ⌜ Writable setting (now a) (now b) × (ticketLength setting ≤ length (now output)) × Room setting (length (now line)) (length (now columns)) (length (now sums)) ⌝ }
+    ensures { λ r. ⌜ ClaimsWrote setting (now (a .entry)) (now (b .entry)) (setting .rows) (now (output .entry)) (now (output .exit)) ⌝ }
+{
+    let inner = setting.inner as usize;
+    let width = setting.columns as usize;
     write_rows(
         setting,
         a,
         b,
         &mut line[..inner],
-        &mut columns,
+        columns,
         &mut sums[..width],
         output,
     );
 }
 
-// The same, row after row, with lists that have room for a row of A, for the columns of B and for the sums of a row.
+// The same, row after row, with lists as long as a row of A and its sums.
 fn write_rows(
     setting: Setting,
     a: &[i32],

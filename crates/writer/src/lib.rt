@@ -51,11 +51,13 @@ pub fn write(setting: Setting, a: &[i32], b: &[i32], output: &mut [u8]) -> Answe
     }
 }
 
-// The ticket, at the beginning of the output.
+// The ticket, at the beginning of the output. The claims are written first: the records of the operands are then made while the
+// processor still divides.
 fn write_ticket(setting: Setting, a: &[i32], b: &[i32], output: &mut [u8])
     requires { ⌜ Writable setting (now a) (now b) × (ticketLength setting ≤ length (now output)) ⌝ }
     ensures { λ r. ⌜ now (output .exit) ≡ ticketOf setting (now (a .entry)) (now (b .entry)) ++ drop (ticketLength setting) (now (output .entry)) ⌝ }
 {
+    claims::write_claims(setting, a, b, output);
     let height = setting.rows as u8;
     let inner = setting.inner as u8;
     let width = setting.columns as usize;
@@ -63,5 +65,4 @@ fn write_ticket(setting: Setting, a: &[i32], b: &[i32], output: &mut [u8])
     let of_b = setting.start(PartNumber::B) as usize;
     records::write_operand(output, of_a, 1, height, inner as usize, a);
     records::write_operand(output, of_b, 2, inner, width, b);
-    claims::write_claims(setting, a, b, output);
 }

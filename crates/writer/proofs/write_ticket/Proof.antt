@@ -10,43 +10,28 @@ use Rattle.writer.specs.Laws.Tickets.{ready-A, ready-B, ticket-wrote}
 use Rattle.writer.proofs.write_ticket.Statement.{statement}
 use Rattle.writer.proofs.write_ticket.Tie as tie
 
--- the places where both starts are there, and where A is written, and then B
+-- the place where both starts are there: before it the call begins, and the claims are written
 abbrev begun : tie.After-start2 → tie.Start
-begun c = c .before .before .before .before .before .before
+begun c = c .before .before .before .before .before .before .before .before .before .before
 
-abbrev first : tie.After-write-operand-arg2 → tie.After-write-operand
-first c = c .before .before .before
-
-abbrev second : tie.After-write-claims-arg → tie.After-write-operand2
-second c = c .before .before .before
-
-write-operand-requires : tie.Need-write-operand-requires
-write-operand-requires c κs = let at = c .before in ready-A (begun at .pre .0) (begun at .pre .1) (at .before .start .ensures)
-
-write-operand-requires-2 : tie.Need-write-operand-requires-2
-write-operand-requires-2 c κs =
-    let at = first c .before .before in
-    ready-B (begun at .pre .0) (omega (arith, first c .write-operand .ensures .long, begun at .pre .1)) (at .start2 .ensures)
-
-write-claims-requires : tie.Need-write-claims-requires
-write-claims-requires c κs =
-    let A = first (second c .before) in
-    let start = begun (A .before .before) in
-    (start .pre .0, omega (arith, second c .write-operand2 .ensures .long, A .write-operand .ensures .long, start .pre .1))
+abbrev claimed : tie.After-start2 → tie.After-write-claims
+claimed c = c .before .before .before .before .before .before .before
 
 returns : tie.Need-returns
 returns c =
-    let claims = c .before .before in
-    let B = second (claims .before) in
-    let A = first (B .before) in
+    let A = c .before .before .before .before .before .before in
     let at = A .before .before in
-    ticket-wrote (begun at .pre .0) (begun at .pre .1) (at .before .start .ensures) (A .write-operand .ensures) (at .start2 .ensures)
-    (B .write-operand2 .ensures) (claims .write-claims .ensures)
+    ticket-wrote (begun at .pre .0) (begun at .pre .1) (claimed at .write-claims .ensures) (at .before .start .ensures) (A .write-operand .ensures)
+    (at .start2 .ensures) (c .before .before .write-operand2 .ensures)
 
 pub write-ticket-spec : {M : Type 1} → statement M
 write-ticket-spec =
     tie.close
-    (tie.spec (λ c. omega (arith, limits (c .before .before .pre .0) .sizes .rows))
-    (λ c. omega (arith, limits (c .before .before .before .pre .0) .sizes .inner)) (λ c. search needs) (λ c κs. search needs) (λ c. search needs)
-    (λ c κs. search needs) (λ c. search needs) (λ c. search needs) write-operand-requires write-operand-requires-2 write-claims-requires
+    (tie.spec (λ c κs. search needs) (λ c. omega (arith, limits (c .before .before .before .before .before .before .pre .0) .sizes .rows))
+    (λ c. omega (arith, limits (c .before .before .before .before .before .before .before .pre .0) .sizes .inner)) (λ c. search needs) (λ c κs. search needs) (λ c. search needs)
+    (λ c κs. search needs) (λ c. search needs) (λ c. search needs)
+    (λ c κs. let at = c .before in
+    ready-A (begun at .pre .0) (omega (arith, claimed at .write-claims .ensures .long, begun at .pre .1)) (at .before .start .ensures))
+    (λ c κs. let A = c .before .before .before in let at = A .before .before in
+    ready-B (begun at .pre .0) (omega (arith, A .write-operand .ensures .long, claimed at .write-claims .ensures .long, begun at .pre .1)) (at .start2 .ensures))
     (λ c. search needs) returns)

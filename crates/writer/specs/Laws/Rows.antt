@@ -5,12 +5,15 @@
 --   RowTo G i s q r n o o'     the first n claims of the row are written, whatever operands these are of
 --   RowWrote G i s q r o o'    all are
 --   row-none, row-claim        no claim of the row is written yet, and one more
+--   Room G a b c               lists of a, b and c numbers have room for a row of A, for the columns of B and for the sums of a row
+--   tiny-room, most-room       so have lists as long as B, and the longest
 --   RowsReady G A B x Y s o    A and B are to be written; there is room for a row of A, for the columns of B, for sums and for the ticket
 --   RowsAt G i a x s q r       before row i: its entries begin at a, its claims at the records q and r, and x and s have room for the row
 --   RowRoom G A i a x q r      row i is inside A, and the records of its claims come early
 --   ClaimsWrote G A B n o o'   the claims of the first n rows are written
 --   rows-begun, row-room, row-ready, rows-none, rows-next, rows-more   before the first row, before each, and after it
 use Prim.Native.Nat.{ℕ, _+_, _-_, _*_, _^_, _≤_, _<_}
+use native.Mathlib.Nat.{mul-le-mul-left, mul-le-mul-right}
 use native.Mathlib.Omega.{arith}
 use mathlib.Core.Path.{_≡_, sym, ap, _∙_}
 use mathlib.Core.Logic.{⊎-elim}
@@ -24,7 +27,7 @@ use Rattle.algebra.specs.Laws.Fills.{Filled, part-of}
 use Rattle.algebra.specs.Laws.Positions.{row-inside}
 use Rattle.exact.specs.Laws.Matrices.{turnedNumber, RowSums, row-sums-exact}
 use Rattle.ticket.specs.declared.setting.Setting.{Setting}
-use Rattle.ticket.specs.Rules.{mostRows, mostColumns, recordBytes, ticketLength, halfRange, lift, start, ofQuotients, ofRemainders}
+use Rattle.ticket.specs.Rules.{mostRows, mostInner, mostColumns, recordBytes, ticketLength, halfRange, lift, start, ofQuotients, ofRemainders}
 use Rattle.ticket.specs.Laws.Differences.{exactSum-is}
 use Rattle.ticket.specs.Laws.Layout.{parts-are, length-is, PartIs, part-quotients, part-remainders}
 use Rattle.ticket.specs.Laws.Limits.{counts, clamped}
@@ -96,6 +99,11 @@ module _ {G : Setting} {row : ℕ} {sums : List ℕ} {quotients remainders : ℕ
 
 -- all rows
 
+pub record Room (G : Setting) (line columns sums : ℕ) : Type 0 where
+  pub for-line : G .inner ≤ line
+  pub for-columns : G .inner * G .columns ≤ columns
+  pub for-sums : G .columns ≤ sums
+
 pub record RowsReady (G : Setting) (A B line columns : List ℤ) (sums output : List ℕ) : Type 0 where
   pub writable : Writable G A B
   pub long-line : length line ≡ G .inner
@@ -118,6 +126,22 @@ pub record RowRoom (G : Setting) (A : List ℤ) (row from : ℕ) (line : List �
 
 abbrev pub ClaimsWrote : Setting → List ℤ → List ℤ → ℕ → List ℕ → List ℕ → Type 0
 ClaimsWrote G A B rows = Wrote (ticketRecord G A B) (Both (start G ofQuotients) (start G ofRemainders) (rows * G .columns))
+
+module _ {G : Setting} {A B : List ℤ} (w : Writable G A B) where
+  pub tiny-room : {n : ℕ} → length B ≤ n → Room G n n n
+  tiny-room few =
+      let sizes = limits w .sizes in
+      let inner = mul-le-mul-left (G .inner) (sizes .columns .0) in
+      let columns = mul-le-mul-right (G .columns) (sizes .inner .0) in
+      record { for-line = omega (arith, long-B w); for-columns = omega (arith, long-B w); for-sums = omega (arith, long-B w) }
+
+  pub most-room : {n : ℕ} → length B ≤ n → Room G mostInner n mostColumns
+  most-room few =
+      let sizes = limits w .sizes in
+      record { for-line = sizes .inner .1; for-columns = omega (arith, long-B w); for-sums = sizes .columns .1 }
+
+  pub most-entries : length B ≤ mostInner * mostColumns
+  most-entries = omega (arith, long-B w, counts (limits w .sizes))
 
 module _ {G : Setting} {A B line columns : List ℤ} {sums before : List ℕ} (ready : RowsReady G A B line columns sums before) where
   pub rows-begun : {quotients remainders : ℕ} → quotients ≡ start (clamped G) ofQuotients → remainders ≡ start (clamped G) ofRemainders

@@ -54,44 +54,44 @@ module _ {G : Setting} {A B : List ℤ} (w : Writable G A B) {first : ℕ} where
           room = omega (arith, of-B e .first-is, parts-are G, length-is G);
         }
 
--- every record is one of A, of B or of the claims
+-- every record is one of the claims, of A or of B
 abbrev Named : Setting → ℕ → Type 0
 Named G k =
-    (Among (start G ofA) (G .rows * G .inner) k ⊎ Among (start G ofB) (G .inner * G .columns) k)
-    ⊎ Both (start G ofQuotients) (start G ofRemainders) (G .rows * G .columns) k
+    (Both (start G ofQuotients) (start G ofRemainders) (G .rows * G .columns) k ⊎ Among (start G ofA) (G .rows * G .inner) k)
+    ⊎ Among (start G ofB) (G .inner * G .columns) k
 
 all-named : (G : Setting) (k : ℕ) → k < records G → Named G k
 all-named G k l =
     let parts = parts-are G in
     elim (decLt k (start G ofB)) [
-      | yes a ↦ inl (inl (record { from = omega arith; below = omega arith }))
+      | yes a ↦ inl (inr (record { from = omega arith; below = omega arith }))
       | no a ↦
           elim (decLt k (start G ofQuotients)) [
-            | yes b ↦ inl (inr (record { from = omega arith; below = omega arith }))
+            | yes b ↦ inr (record { from = omega arith; below = omega arith })
             | no b ↦
-                elim (decLt k (start G ofRemainders)) [
-                  | yes c ↦ inr (inl (record { from = omega arith; below = omega arith }))
-                  | no c ↦ inr (inr (record { from = omega arith; below = omega arith }))
-                ]
+                inl (inl (elim (decLt k (start G ofRemainders)) [
+                  | yes c ↦ inl (record { from = omega arith; below = omega arith })
+                  | no c ↦ inr (record { from = omega arith; below = omega arith })
+                ]))
           ]
     ]
 
 named-within : (G : Setting) (k : ℕ) → Named G k → k < records G
 named-within G k =
     let parts = parts-are G in
-    ⊎-elim (⊎-elim (λ a. omega (arith, a .below)) (λ a. omega (arith, a .below)))
-    (⊎-elim (λ a. omega (arith, a .below)) (λ a. omega (arith, a .below)))
+    ⊎-elim (⊎-elim (⊎-elim (λ a. omega (arith, a .below)) (λ a. omega (arith, a .below))) (λ a. omega (arith, a .below)))
+    (λ a. omega (arith, a .below))
 
 pub ticket-wrote : {G : Setting} {A B : List ℤ} (w : Writable G A B) {a b : ℕ} {before x y after : List ℕ} → ticketLength G ≤ length before
-    → a ≡ start (clamped G) ofA → OperandWrote 1 (G .rows) (G .inner) a A before x
-    → b ≡ start (clamped G) ofB → OperandWrote 2 (G .inner) (G .columns) b B x y → ClaimsWrote G A B (G .rows) y after
+    → ClaimsWrote G A B (G .rows) before x → a ≡ start (clamped G) ofA → OperandWrote 1 (G .rows) (G .inner) a A x y
+    → b ≡ start (clamped G) ofB → OperandWrote 2 (G .inner) (G .columns) b B y after
     → after ≡ ticketOf G A B ++ drop (ticketLength G) before
-ticket-wrote {G} {A} {B} w room a-is wrote-A b-is wrote-B claims =
+ticket-wrote {G} {A} {B} w room claims a-is wrote-A b-is wrote-B =
     let part-A = rw (of-A w a-is .first-is) at (wrote-A .wrote G A B ofA (of-A w a-is)) in
     let part-B = rw (of-B w b-is .first-is) at (wrote-B .wrote G A B ofB (of-B w b-is)) in
     rw (length-records G)
     (wrote-all (ticketOf G A B)
-    (wrote-more (wrote-more part-A part-B (λ k. inl) (λ k. inr) (λ k s. s)) claims (λ k. inl) (λ k. inr) (λ k s. s))
+    (wrote-more (wrote-more claims part-A (λ k. inl) (λ k. inr) (λ k s. s)) part-B (λ k. inl) (λ k. inr) (λ k s. s))
     (all-named G) (named-within G) (length-ticketOf G A B ∙ length-records G) (λ k l. ticket-record G A B l) (omega (arith, length-records G)))
 
 -- the whole call
