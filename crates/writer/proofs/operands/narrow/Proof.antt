@@ -35,8 +35,7 @@ small c = c .before .before .pre .entries .small (c .before .loop .at) (c .loop-
 loop-again : tie.Need-loop-again Inv-loop μ-loop
 loop-again c =
     let loop = c .before .before .loop in
-    let start = c .before .before .before in
-    let read = narrow-stored (entry (c .before)) (small (c .before)) ∙ ap (λ n. getD (start .args .matrix .now) n (pos 0)) (loop .inv .1) in
+    let read = narrow-stored (entry (c .before)) (small (c .before)) ∙ ap (λ n. getD (c .before .before .before .args .matrix .now) n (pos 0)) (loop .inv .1) in
     (omega (arith, room (c .before)), omega arith, filled-more (room (c .before)) (loop .inv .2) read)
 
 returns : tie.Need-returns Inv-loop μ-loop

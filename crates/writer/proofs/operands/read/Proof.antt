@@ -27,6 +27,11 @@ size-B c =
     let within = start (c .before .before) .pre in
     c .size2 .ensures ∙ ap (λ H. partSize (part H ofB)) (clamped-same (within .sizes) (within .numbers))
 
+-- both operands have their lengths
+both-long : (c : tie.Else2) → let of = start (c .before .before .before) .args in
+    (length (of .a .now) ≡ partSize (part (of .setting) ofA)) × (length (of .b .now) ≡ partSize (part (of .setting) ofB))
+both-long c = (c .before .before .if1 .left ∙ size-A (c .before .before .before), c .if2 .left ∙ size-B (c .before))
+
 returns : tie.Need-returns
 unfolding operandsReading
 returns c = sym (rw (ne-eqb _ _ (λ e. c .if1 .taken (e ∙ sym (size-A (c .before))))))
@@ -34,16 +39,8 @@ returns c = sym (rw (ne-eqb _ _ (λ e. c .if1 .taken (e ∙ sym (size-A (c .befo
 returns-2 : tie.Need-returns-2
 unfolding operandsReading
 returns-2 c =
-    sym (rw (
-      eq-eqb _ _ (c .before .before .if1 .left ∙ size-A (c .before .before .before)),
-      ne-eqb _ _ (λ e. c .if2 .taken (e ∙ sym (size-B (c .before)))),
-    ))
-
--- the entries in A, then in B, where both operands have their lengths
-both-long : (c : tie.Else2) → let G = start (c .before .before .before) .args .setting in
-    (length (start (c .before .before .before) .args .a .now) ≡ partSize (part G ofA))
-    × (length (start (c .before .before .before) .args .b .now) ≡ partSize (part G ofB))
-both-long c = (c .before .before .if1 .left ∙ size-A (c .before .before .before), c .if2 .left ∙ size-B (c .before))
+    let long = c .before .before .if1 .left ∙ size-A (c .before .before .before) in
+    sym (rw (eq-eqb _ _ long, ne-eqb _ _ (λ e. c .if2 .taken (e ∙ sym (size-B (c .before))))))
 
 returns-3 : tie.Need-returns-3
 returns-3 c =
@@ -54,22 +51,18 @@ returns-3 c =
 returns-4 : tie.Need-returns-4
 returns-4 c =
     let found = c .before .before .before .first-beyond .ensures in
-    let long = both-long (c .before .before .before .before) in
-    let sized = c .before .before .before .before .before .before .before in
-    let G = start sized .args .setting in
-    let b = start sized .args .b .now in
-    c .first-beyond2 .ensures ∙ ap (λ n. firstRefusal n (length b) (operandNumber G b)) (size-A sized)
+    let else = c .before .before .before .before in
+    let long = both-long else in
+    let of = start (else .before .before .before) .args in
+    c .first-beyond2 .ensures
+    ∙ ap (λ n. firstRefusal n (length (of .b .now)) (operandNumber (of .setting) (of .b .now))) (size-A (else .before .before .before))
     ∙ sym (in-order _ _ _ (long .0) (long .1) ∙ after-passed _ _ (sym (ap (λ a. a .number) found) ∙ c .before .if3 .left))
-
-first-beyond-requires-2 : tie.Need-first-beyond-requires-2
-first-beyond-requires-2 c κs =
-    let long = both-long (c .before .before .before) in
-    let size = size-A (c .before .before .before .before .before .before) in
-    let begun = start (c .before .before .before .before .before .before) in
-    omega (arith, parts-are (begun .args .setting), counts (begun .pre .sizes))
 
 pub read-spec : {M : Type 1} → statement M
 read-spec =
     tie.close
     (tie.spec (λ c κs. search needs) (λ c. search needs) returns (λ c κs. search needs) (λ c. search needs) returns-2
-    (λ c κs. search needs) returns-3 first-beyond-requires-2 returns-4)
+    (λ c κs. search needs) returns-3
+    (λ c κs. let else = c .before .before .before in
+    let begun = start (else .before .before .before) in
+    omega (arith, both-long else, size-A (else .before .before .before), parts-are (begun .args .setting), counts (begun .pre .sizes))) returns-4)

@@ -16,38 +16,19 @@ use Rattle.writer.proofs.records.residue.Tie as tie
 below : (z : ℤ) → leastResidue modulus z < 2 ^ 32
 below z = omega (arith, residue-below modulus modulus-positive z, modulus-below)
 
-abbrev start : tie.After-struct-told → tie.Start
-start c = c .before
-
-abbrev entry : tie.After-struct-told → ℤ
-entry c = start c .args .entry .0
-
-negative : (c : tie.After-modulus) → let z = entry (c .before .before) in
+negative : (c : tie.After-modulus) → let z = c .before .before .before .args .entry .0 in
     toZ w32 (ofZ w32 z) +ℤ toZ w32 (c .modulus .result) ≡ pos (leastResidue modulus z)
-negative c =
-    let at = c .before .before in residue-negative (entry at) (start at .pre) (c .before .if1 .taken) (c .modulus .ensures)
+negative c = search residue-negative
 
 add-t6 : tie.Need-add-t6
-add-t6 c =
-    let at = c .before .before in residue-fits (entry at) (start at .pre) (c .before .if1 .taken) (c .modulus .ensures)
+add-t6 c = search residue-fits
 
-cast-t7 : tie.Need-cast-t7
-cast-t7 c = natural-cast (add-t6 c) (negative c) (below (entry (c .before .before)))
-
-returns : tie.Need-returns
-returns c = natural-is (add-t6 c) (negative c)
-
-cast-t8 : tie.Need-cast-t8
-cast-t8 c =
-    let at = c .before in
-    natural-cast (small-fits-wide (entry at) (start at .pre)) (residue-positive (entry at) (start at .pre) (c .if1 .left)) (below (entry at))
-
-returns-2 : tie.Need-returns-2
-returns-2 c =
-    let at = c .before in
-    natural-is (small-fits-wide (entry at) (start at .pre)) (residue-positive (entry at) (start at .pre) (c .if1 .left))
+positive : (c : tie.Else1) → let z = c .before .before .args .entry .0 in z ≡ pos (leastResidue modulus z)
+positive c = search residue-positive
 
 pub residue-spec : {M : Type 1} → statement M
 residue-spec =
     tie.close
-    (tie.spec (λ c κs. search needs) (λ c. omega (arith, c .modulus .ensures, modulus-below)) add-t6 cast-t7 returns cast-t8 returns-2)
+    (tie.spec (λ c κs. search needs) (λ c. omega (arith, c .modulus .ensures, modulus-below)) add-t6
+    (λ c. natural-cast (add-t6 c) (negative c) (below _)) (λ c. natural-is (add-t6 c) (negative c))
+    (λ c. natural-cast (small-fits-wide _ (search)) (positive c) (below _)) (λ c. natural-is (small-fits-wide _ (search)) (positive c)))
