@@ -1,8 +1,7 @@
 -- The form that the code gives the tests of a part, and that they are the rule's.
 --
 --   entriesForm κ m n T  the form of m by n entries from -T to T, of kind κ
---   formsOf G, lastForm G, formOf G w   the forms of the parts before the last, that of the last, and that of part w
---   form-last            from the last part on, it is the last
+--   quotientsForm G, remaindersForm G   the forms of the quotients and of the remainders
 --   testedAt b F i r c   the number of record i of b by the form F, which stands in row r, column c
 --   tested b F i         the same, the row and the column from i
 --   partAnswer F a b     the answer of the part that b begins with, of which the first record has the number a
@@ -11,7 +10,7 @@
 --   recordSlice b i      the bytes of record i of b, as a slice
 --   slice-long, first-word, last-word   how many they are, and the words of its first four bytes and of its last
 --   header-formed        the form of a record by its first four bytes as one word
---   tested-misformed, tested-large, tested-outside, tested-passed   the number, as the tests come out in order
+--   tested-is            the number, by the tests as the code makes them
 --   Scanned b F i r c    the records before i pass, and i is in row r, column c
 --   scanned-none         before the first record
 --   scanned-refused      record i is refused: the answer of the part
@@ -23,12 +22,12 @@ use native.Mathlib.Decide.{ℕ-discrete}
 use native.Mathlib.Omega.{arith}
 use mathlib.Core.Path.{_≡_, refl, sym, ap, _∙_}
 use mathlib.Core.Logic.{_↔_}
-use mathlib.Core.Bool.{true, false}
+use mathlib.Core.Bool.{Bool, true}
 use mathlib.Core.List.{List, [], _∷_}
-use borrow.Author.Tests.{le-ltb, lt-ltb, eq-eqb, eqb-true}
+use borrow.Author.Tests.{eq-eqb, eqb-true}
 use lib.Dec.{ltb, eqb}
 use lib.IntN.{pos, _+ℤ_}
-use lib.ListN.{length, getD, take, drop, List·getD-eq-default}
+use lib.ListN.{length, getD, take, drop}
 use Rattle.residue.specs.Rules.{modulus, leastResidue}
 use Rattle.residue.specs.Laws.Modulus.{modulus-positive}
 use Rattle.residue.specs.Laws.Residues.{residue-of-natural}
@@ -36,10 +35,9 @@ use Rattle.algebra.specs.Rules.{word}
 use Rattle.algebra.specs.Laws.Bytes.{word-eqb}
 use Rattle.algebra.specs.Laws.Fills.{part-of, part-long}
 use Rattle.algebra.specs.Laws.Positions.{Position, position-none, row-of, column-of, position-next, position-row}
-use Rattle.ticket.specs.Rules.{Test, test, firstFailed, recordBytes, byteAt, formed, valueAt, halfRange, refusal, firstRefusal}
+use Rattle.ticket.specs.Rules.{unless, Test, test, firstFailed, recordBytes, byteAt, formed, valueAt, halfRange, refusal, firstRefusal}
 use Rattle.ticket.specs.Laws.Limits.{both}
 use Rattle.ticket.specs.Laws.Scans.{refusal-is}
-use Rattle.ticket.specs.Laws.Tests.{Failed, none, one, here, later, holding-number, failed-number}
 use Rattle.ticket.specs.declared.Answer.{Answer}
 use Rattle.ticket.specs.declared.setting.Setting.{Setting}
 use Rattle.ticket.specs.declared.records.Form.{Form}
@@ -48,23 +46,12 @@ abbrev pub entriesForm : ℕ → ℕ → ℕ → ℕ → Form
 entriesForm kind rows columns bound =
     record { kind = kind; rows = rows; columns = columns; shift = bound; limit = 2 * bound + 1; outside = 7 }
 
-unfoldable pub formsOf : Setting → List Form
-formsOf G =
-    entriesForm 1 (G .rows) (G .inner) (G .bound)
-    ∷ entriesForm 2 (G .inner) (G .columns) (G .bound)
-    ∷ record { kind = 3; rows = G .rows; columns = G .columns; shift = halfRange G; limit = 2 * halfRange G; outside = 8 }
-    ∷ []
+abbrev pub quotientsForm : Setting → Form
+quotientsForm G =
+    record { kind = 3; rows = G .rows; columns = G .columns; shift = halfRange G; limit = 2 * halfRange G; outside = 8 }
 
--- of the last part, and past it
-abbrev pub lastForm : Setting → Form
-lastForm G = record { kind = 4; rows = G .rows; columns = G .columns; shift = 0; limit = G .scale; outside = 9 }
-
-unfoldable pub formOf : Setting → ℕ → Form
-formOf G w = getD (formsOf G) w (lastForm G)
-
-pub form-last : (G : Setting) {w : ℕ} → 3 ≤ w → formOf G w ≡ lastForm G
-unfolding formsOf formOf
-form-last G past = List·getD-eq-default (formsOf G) (lastForm G) past
+abbrev pub remaindersForm : Setting → Form
+remaindersForm G = record { kind = 4; rows = G .rows; columns = G .columns; shift = 0; limit = G .scale; outside = 9 }
 
 -- the tests of record i, in order
 abbrev testsAt : List ℕ → Form → ℕ → ℕ → ℕ → List Test
@@ -123,32 +110,13 @@ pub header-formed : (bytes : List ℕ) (i : ℕ) {kind row column header expecte
 unfolding formed
 header-formed bytes i h e small k r c = rw (h, e) (word-eqb (small _) (small _) (small _) (small _) k (omega arith) r c)
 
-module _ (bytes : List ℕ) (F : Form) (i row column : ℕ) where
-  failed : {c : ℕ} → Failed (testsAt bytes F i row column) c → c ≡ testedAt bytes F i row column
-  unfolding testedAt
-  failed f = sym (failed-number f)
-
-  pub tested-misformed : formed bytes i (F .kind) row column ≡ false → 5 ≡ testedAt bytes F i row column
-  tested-misformed e = failed (here e)
-
-  module _ (form : formed bytes i (F .kind) row column ≡ true) {value : ℕ} (value-is : value ≡ valueAt bytes i) where
-    pub tested-large : ltb value modulus ≡ false → 6 ≡ testedAt bytes F i row column
-    tested-large e = failed (later form (here (rw (← value-is) e)))
-
-    module _ (least : ltb value modulus ≡ true) {shifted : ℕ}
-        (shifted-is : shifted ≡ leastResidue modulus (pos value +ℤ pos (F .shift))) where
-      small : ltb (valueAt bytes i) modulus ≡ true
-      small = rw (← value-is) least
-
-      shifted-by : shifted ≡ (valueAt bytes i + F .shift) % modulus
-      shifted-by = shifted-is ∙ residue-of-natural modulus modulus-positive (value + F .shift) ∙ rw value-is
-
-      pub tested-outside : F .limit ≤ shifted → F .outside ≡ testedAt bytes F i row column
-      tested-outside h = failed (later form (later small (here (rw (← shifted-by) (le-ltb shifted (F .limit) h)))))
-
-      pub tested-passed : shifted < F .limit → 0 ≡ testedAt bytes F i row column
-      unfolding testedAt
-      tested-passed h = sym (holding-number (one form (one small (one (rw (← shifted-by) (lt-ltb shifted (F .limit) h)) none))))
+pub tested-is : (bytes : List ℕ) (F : Form) (i row column : ℕ) {form least : Bool} {value shifted : ℕ}
+    → form ≡ formed bytes i (F .kind) row column → value ≡ valueAt bytes i → least ≡ ltb value modulus
+    → shifted ≡ leastResidue modulus (pos value +ℤ pos (F .shift))
+    → unless form 5 (unless least 6 (unless (ltb shifted (F .limit)) (F .outside) 0)) ≡ testedAt bytes F i row column
+unfolding testedAt firstFailed
+tested-is bytes F i row column form value least shifted =
+    rw (form, least, shifted, value, residue-of-natural modulus modulus-positive (valueAt bytes i + F .shift))
 
 pub record Scanned (bytes : List ℕ) (F : Form) (i row column : ℕ) : Type 0 where
   pub at : Position (F .columns) i row column
