@@ -2,7 +2,7 @@
 ghost use mathlib.Core.Path.{_≡_};
 ghost use Prim.Native.Nat.{_+_, _*_, _^_, _≤_, _<_};
 ghost use lib.ListN.{length};
-ghost use Rattle.ticket.specs.Rules.{mostBound, unless, reading, recordBytes, records, part, recordNumber, firstRefusal, formed};
+ghost use Rattle.ticket.specs.Rules.{mostBound, reading, recordBytes, records, part, recordNumber, firstRefusal, formed};
 ghost use Rattle.ticket.specs.Laws.Limits.{Sizes, Numbers};
 ghost use Rattle.ticket.specs.Laws.All.{all};
 ghost use Rattle.ticket.specs.Laws.Forms.{entriesForm, partAnswer, testedAt, Holds, Ranged};
@@ -15,6 +15,7 @@ use crate::parts::RECORD;
 use crate::parts::part;
 use crate::parts::value_at;
 use crate::parts::word;
+use crate::setting::unless;
 use residue::Residue;
 
 // Rows of at most so many records are not worth the pass without branches.
@@ -220,17 +221,11 @@ fn record_number(records: &[u8], form: Form, i: u32, row: u8, column: u8) -> u32
     let value = value_at(records, i as usize);
     let least = value.is_least();
     let shifted = value.add(Residue(form.shift)).0;
-    unless(formed, 5, unless(least, 6, unless(shifted < form.limit, form.outside, 0)))
-}
-
-// The rest where a test passed, else the number of its refusal.
-fn unless(passed: bool, number: u32, rest: u32) -> u32
-    ensures { λ r. ⌜ r ≡ unless passed number rest ⌝ }
-{
-    if passed {
-        return rest;
-    }
-    number
+    unless(
+        formed,
+        5,
+        unless(least, 6, unless(shifted < form.limit, form.outside, 0)),
+    )
 }
 
 // Whether record i has the kind, a zero byte, the row and the column.

@@ -1,44 +1,43 @@
-use mathlib.Core.Path.{_≡_, sym, _∙_}
-use mathlib.Core.Bool.{true}
+use Prim.Native.Nat.{ℕ}
+use mathlib.Core.Path.{_≡_, refl, _∙_}
+use mathlib.Core.Bool.{Bool, true, false, true≢false, _&&_}
 use borrow.Author.Needs.{needs}
-use borrow.Author.Tests.{not-true, not-false}
-use Rattle.ticket.specs.Rules.{sizesWithin, numbersWithin, settingTests}
-use Rattle.ticket.specs.Laws.Limits.{sizes-of, numbers-of}
-use Rattle.ticket.specs.Laws.Tests.{none, one, here, later, holding-number, failed-number}
+use Rattle.ticket.specs.Rules.{unless, settingTests, firstFailed}
+use Rattle.ticket.specs.Laws.Limits.{both, sizes-of, numbers-of}
 use Rattle.ticket.proofs.setting.Setting.number.Statement.{statement}
 use Rattle.ticket.proofs.setting.Setting.number.Tie as tie
 
-sizes : (c : tie.Else1) → sizesWithin (c .before .before .args .self) ≡ true
-sizes c = sym (c .before .sizes-within .ensures) ∙ not-false _ (c .if1 .left)
+hold : (c : tie.Then1) → (c .before .before .sizes-within .result ≡ true) × (c .before .numbers-within .result ≡ true)
+hold c = both _ _ (c .if1 .taken)
 
-numbers : (c : tie.Else2) → numbersWithin (c .before .before .before .before .args .self) ≡ true
-numbers c = sym (c .before .numbers-within .ensures) ∙ not-false _ (c .if2 .left)
-
-returns : tie.Need-returns
-unfolding settingTests
-returns c = sym (failed-number (here (sym (c .before .sizes-within .ensures) ∙ not-true _ (c .if1 .taken))))
-
-returns-2 : tie.Need-returns-2
-unfolding settingTests
-returns-2 c =
-    sym (failed-number (later (sizes (c .before .before)) (here (sym (c .before .numbers-within .ensures) ∙ not-true _ (c .if2 .taken)))))
+-- where not both tests hold, a third does not matter
+first-two : (a b : Bool) (n : ℕ) → (a && b) ≡ false → unless a 1 2 ≡ unless a 1 (unless b 2 n)
+first-two true true n e = absurd (true≢false e)
+first-two true false n e = refl
+first-two false b n e = refl
 
 fits-requires : tie.Need-fits-requires
-fits-requires c κs = (sizes-of _ (sizes (c .before .before)), numbers-of _ (numbers c))
+fits-requires c κs =
+    (sizes-of _ (rw (c .before .before .sizes-within .ensures) at (hold c .0)), numbers-of _ (rw (c .before .numbers-within .ensures) at (hold c .1)))
 
-returns-3 : tie.Need-returns-3
-unfolding settingTests
-returns-3 c =
-    let two = c .before .before in
-    sym (failed-number (later (sizes (two .before .before)) (later (numbers two) (here (sym (c .before .fits2 .ensures) ∙ not-true _ (c .if3 .taken))))))
+returns : tie.Need-returns
+unfolding settingTests firstFailed
+returns c =
+    let at = c .before .before in
+    let two = at .before in
+    c .unless .ensures
+    ∙ rw (← two .before .sizes-within .ensures, ← two .numbers-within .ensures, hold at .0, hold at .1, c .before .fits2 .ensures)
 
-returns-4 : tie.Need-returns-4
-unfolding settingTests
-returns-4 c =
+returns-2 : tie.Need-returns-2
+unfolding settingTests firstFailed
+returns-2 c =
     let two = c .before .before in
-    sym (holding-number (one (sizes (two .before .before)) (one (numbers two) (one (sym (c .before .fits2 .ensures) ∙ not-false _ (c .if3 .left)) none))))
+    c .unless2 .ensures
+    ∙ rw (← two .before .sizes-within .ensures, ← two .numbers-within .ensures)
+    (first-two (two .before .sizes-within .result) (two .numbers-within .result) _ (c .before .if1 .left))
 
 pub number-spec : {M : Type 1} → statement M
 number-spec =
     tie.close
-    (tie.spec (λ c κs. search needs) returns (λ c κs. search needs) returns-2 fits-requires returns-3 returns-4)
+    (tie.spec (λ c κs. search needs) (λ c κs. search needs) fits-requires (λ c κs. search needs) returns (λ c κs. search needs)
+    returns-2)
