@@ -85,7 +85,7 @@ module _ {S : Steps} {i n k : ℕ} {a : Answer} (run : RunTo S i a) (inside : i 
       elim (decLe i j) [
         | yes past ↦
             let same : i + (j - i) ≡ j = omega arith in
-            rw same at (sym (alike (j - i) (omega (arith, first-within n f))) ∙ first-before n (j - i) f (omega arith))
+            rw same at (sym (alike (j - i) (omega (arith, first-within n f))) ∙ first-before n f (j - i) (omega arith))
         | no early ↦ run .before j (omega arith)
       ]
 
