@@ -29,7 +29,7 @@ use Rattle.ticket.specs.declared.Answer.{Answer}
 use Rattle.ticket.specs.declared.records.Form.{Form}
 use Rattle.ticket.specs.Rules.{test, firstFailed, Part, parts, part, ofA, ofB, ofQuotients, ofRemainders, partSize, start, records, isEntry, isQuotient, shiftedQuotient, ticketLength, formed, valueAt, partTests, recordTests, recordNumber, refusal, firstRefusal}
 use Rattle.ticket.specs.Laws.Limits.{Numbers, Counts, half-small, half-double, clamped, clamped-same}
-use Rattle.ticket.specs.Laws.Layout.{no-parts, one-part, part-all, parts-are, start-none, start-next, ends-within, start-past, holder-at, partBytes, part-bytes-long, form-of-part, value-of-part}
+use Rattle.ticket.specs.Laws.Layout.{each-part, parts-are, start-none, start-next, ends-within, start-past, holder-at, partBytes, part-bytes-long, form-of-part, value-of-part}
 use Rattle.ticket.specs.Laws.Scans.{refusal-none, refusal-cong, refusal-split, after-passed, after-refused}
 use Rattle.ticket.specs.Laws.Answers.{scan-zero}
 use Rattle.ticket.specs.Laws.Forms.{entriesForm, quotientsForm, remaindersForm, tested, testedAt, partAnswer, Holds, Ranged}
@@ -122,11 +122,10 @@ module _ (G : Setting) (t : List ℕ) {w : ℕ} (ready : PartReady G t w) {b : L
 
   -- no part of a setting within its limits is without columns
   wide : 1 ≤ part G w .columns
-  unfolding parts
+  unfolding parts part
   wide =
       let s = ready .ready .counts .sizes in
-      part-all G {Q = λ P. 1 ≤ P .columns}
-      (one-part (s .inner .0) (one-part (s .columns .0) (one-part (s .columns .0) (one-part (s .columns .0) no-parts)))) (ready .known)
+      each-part G (λ w. 1 ≤ part G w .columns) (s .inner .0) (s .columns .0) (s .columns .0) (s .columns .0) w (ready .known)
 
   pub part-holds : Holds b F
   part-holds =

@@ -3,6 +3,7 @@
 --   PassedTo G t k         the setting and the length pass, and every record before k does
 --   Refused G t c k        the condition of the number c with the place k, no earlier test failing: the first test of the setting that
 --                          fails, the length, or the first test that fails of the first record that does not pass
+--   record-numbered        the numbers of a record's tests are 5 to 9
 --   records-read           where setting and length pass, reading is that of the records
 --   passed-reading         where all tests pass, reading answers 0
 --   refused-reading        where the condition of a number holds, reading answers that number
@@ -24,11 +25,10 @@ use borrow.Author.Tests.{eq-eqb, ne-eqb}
 use lib.ListN.{length}
 use Rattle.ticket.specs.declared.setting.Setting.{Setting}
 use Rattle.ticket.specs.declared.Answer.{Answer}
-use Rattle.ticket.specs.Rules.{refusal, settingTests, settingNumber, part, partSize, start, records, ticketLength, recordTests, recordNumber, firstRefusal, after, recordsReading, reading}
-use Rattle.ticket.specs.Laws.Tests.{AllHold, Failed, here, later, hold-or-failed, holding-number, failed-number, failed-within}
+use Rattle.ticket.specs.Rules.{refusal, settingTests, settingNumber, parts, part, partSize, start, records, ticketLength, recordTests, recordNumber, firstRefusal, after, recordsReading, reading}
+use Rattle.ticket.specs.Laws.Tests.{AllHold, Failed, Numbered, here, later, hold-or-failed, holding-number, failed-number, failed-within}
 use Rattle.ticket.specs.Laws.Limits.{setting-numbered}
-use Rattle.ticket.specs.Laws.Layout.{located-at, locatedTests, tests-located}
-use Rattle.ticket.specs.Laws.Passes.{record-numbered}
+use Rattle.ticket.specs.Laws.Layout.{each-part, located-at, locatedTests, tests-located}
 use Rattle.ticket.specs.Laws.Scans.{refusal-none, refusal-is, after-passed, after-refused}
 
 pub record PassedTo (G : Setting) (t : List ℕ) (k : ℕ) : Type 0 where
@@ -40,6 +40,19 @@ pub data Refused (G : Setting) (t : List ℕ) : ℕ → ℕ → Type 0 where
   by-setting : {c : ℕ} → Failed (settingTests G) c → Refused G t c 0
   by-length : AllHold (settingTests G) → (length t ≡ ticketLength G → ⊥) → Refused G t 4 0
   by-record : {c k : ℕ} → PassedTo G t k → k < records G → Failed (recordTests G t k) c → Refused G t c k
+
+-- the number of a value out of range is 7 to 9
+outside-within : (G : Setting) {w : ℕ} → w < length (parts G) → (7 ≤ part G w .outside) × (part G w .outside ≤ 9)
+unfolding parts part
+outside-within G {w} m =
+    each-part G (λ w. (7 ≤ part G w .outside) × (part G w .outside ≤ 9)) (omega arith) (omega arith) (omega arith) (omega arith) w m
+
+pub record-numbered : (G : Setting) (t : List ℕ) {k : ℕ} → k < records G → Numbered 5 9 (recordTests G t k)
+unfolding Numbered
+record-numbered G t {k} l =
+    let at = located-at G k l in
+    let outside = outside-within G (at .1 .within) in
+    rw (tests-located t (at .2)) (omega arith, (omega arith, (omega arith, tt)))
 
 module _ (G : Setting) (t : List ℕ) where
   pub refused-number : {c k : ℕ} → Refused G t c k → (1 ≤ c) × (c ≤ 9)
