@@ -1,5 +1,6 @@
 -- The first place at which a test fails, over the rule `first`.
 --
+--   joined         what holds at the first m places and at the n after them holds at all
 --   true-or-false  a test holds or fails
 --   first-none     where the test holds everywhere below n, there is no such place
 --   first-is       the place is i, where the test fails there and holds before it
@@ -9,8 +10,8 @@
 --   first-at       at it the test fails, where it is below n
 --   FirstFailure n f i, holds-or-first   either the test holds everywhere below n, or i is that place
 use Rattle.ticket.specs.Rules.{first}
-use Prim.Native.Nat.{ℕ, zero, suc, _≤_, _<_}
-use native.Mathlib.Decide.{ℕ-discrete}
+use Prim.Native.Nat.{ℕ, zero, suc, _+_, _-_, _≤_, _<_}
+use native.Mathlib.Decide.{ℕ-discrete, decLe}
 use native.Mathlib.Omega.{arith}
 use mathlib.Core.Logic.{_⊎_, inl, inr, ⊎-elim}
 use mathlib.Core.Path.{_≡_, refl}
@@ -27,6 +28,13 @@ first-is zero i f l h e = omega arith
 first-is (suc n) zero f l h e = rw e
 first-is (suc n) (suc i) f l h e =
     rw (h 0 (omega arith), first-is n i (λ k. f (suc k)) (omega arith) (λ k l. h (suc k) (omega arith)) e)
+
+pub joined : (P : ℕ → Type 0) {m n : ℕ} → ((k : ℕ) → k < m → P k) → ((k : ℕ) → k < n → P (m + k)) → (k : ℕ) → k < m + n → P k
+joined P {m} early late k l =
+    elim (decLe m k) [
+      | yes past ↦ let same : m + (k - m) ≡ k = omega arith in rw same at (late (k - m) (omega arith))
+      | no before ↦ early k (omega arith)
+    ]
 
 pub true-or-false : (b : Bool) → (b ≡ true) ⊎ (b ≡ false)
 true-or-false true = inl refl
