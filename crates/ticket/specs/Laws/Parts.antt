@@ -16,7 +16,7 @@ use native.Mathlib.Omega.{arith}
 use mathlib.Core.Path.{_≡_, refl, sym, _∙_}
 use mathlib.Core.Bool.{Bool}
 use mathlib.Core.List.{List, [], _∷_}
-use borrow.Author.Tests.{lt-ltb, le-ltb, le-leb, lt-leb}
+use borrow.Author.Tests.{le-ltb}
 use lib.Dec.{leb, ltb}
 use lib.IntN.{natAbs}
 use lib.ListN.{length}
@@ -30,6 +30,7 @@ use Rattle.ticket.specs.declared.records.Form.{Form}
 use Rattle.ticket.specs.Rules.{test, firstFailed, Part, parts, part, ofA, ofB, ofQuotients, ofRemainders, partSize, start, records, isEntry, isQuotient, shiftedQuotient, ticketLength, formed, valueAt, partTests, recordTests, recordNumber, refusal, firstRefusal}
 use Rattle.ticket.specs.Laws.Limits.{Numbers, Counts, half-small, half-double, clamped, clamped-same}
 use Rattle.ticket.specs.Laws.Layout.{each-part, parts-are, start-none, start-next, ends-within, start-past, holder-at, partBytes, part-bytes-long, form-of-part, value-of-part}
+use Rattle.ticket.specs.Laws.Tests.{same-test}
 use Rattle.ticket.specs.Laws.Scans.{refusal-none, refusal-cong, refusal-split, after-passed, after-refused}
 use Rattle.ticket.specs.Laws.Answers.{scan-zero}
 use Rattle.ticket.specs.Laws.Forms.{entriesForm, quotientsForm, remaindersForm, tested, testedAt, partAnswer, Holds, Ranged}
@@ -40,21 +41,14 @@ entry-range p above T v h k =
     elim (decLe v ((p - 1) / 2)) [
       | yes low ↦
           let small : v + T < p = omega arith in
-          rw (entry-low p above v low, mod-eq-of-lt small)
-          (elim (decLe v T) [
-            | yes le ↦ le-leb v T le ∙ sym (lt-ltb (v + T) (2 * T + 1) (omega arith))
-            | no gt ↦ lt-leb v T (omega arith) ∙ sym (le-ltb (v + T) (2 * T + 1) (omega arith))
-          ])
+          rw (entry-low p above v low, mod-eq-of-lt small) (same-test v T (v + T) (2 * T + 1) (λ e. omega arith) (λ e. omega arith))
       | no high ↦
           rw (entry-high p above v (omega arith) k)
           (elim (decLe p (v + T)) [
-            | yes le ↦
-                le-leb (suc (p - suc v)) T (omega arith)
-                ∙ sym (rw (mod-once p (v + T) le (omega arith)) (lt-ltb (v + T - p) (2 * T + 1) (omega arith)))
+            | yes le ↦ rw (mod-once p (v + T) le (omega arith)) (same-test _ T _ (2 * T + 1) (λ e. omega arith) (λ e. omega arith))
             | no gt ↦
                 let small : v + T < p = omega arith in
-                lt-leb (suc (p - suc v)) T (omega arith)
-                ∙ sym (rw (mod-eq-of-lt small) (le-ltb (v + T) (2 * T + 1) (omega arith)))
+                rw (mod-eq-of-lt small) (same-test _ T _ (2 * T + 1) (λ e. omega arith) (λ e. omega arith))
           ])
     ]
 
