@@ -5,6 +5,7 @@
 --   narrowShift, narrowed x, narrowAt b k   2^15; the 16-bit number of a shifted value x; that of record k of b
 --   liftedAt q r h a c    the value of record c of q with h added modulo p, times a, and the value of record c of r, modulo 2^32
 --   ShiftedList b s l l', NarrowList b l l', LiftedList q r h a l l'   the list l' is l, filled with these as far as records and l go
+--   filled-to             a list filled as far as to k, where that is n
 --   narrow-bits           the number of a shifted value has 16 bits
 --   shifted-entry         a value with at least its entry's size added is that entry, shifted
 --   Decodable G t w b     b are the bytes of part w, decoded whole
@@ -71,6 +72,9 @@ NarrowList bytes before list = Filled (pos 0) before (decodedCount bytes (length
 abbrev pub LiftedList : List ℕ → List ℕ → ℕ → ℕ → List ℕ → List ℕ → Type 0
 LiftedList quotients remainders half scale before list =
     Filled 0 before (claimCount quotients remainders (length before)) (liftedAt quotients remainders half scale) list
+
+pub filled-to : {A : Type 0} {d : A} {before list : List A} {f : ℕ → A} {k n : ℕ} → k ≡ n → Filled d before k f list → Filled d before n f list
+filled-to e filled = rw (← e) filled
 
 pub narrow-bits : (shifted : ℕ) → SFits w16 (narrowed shifted)
 narrow-bits shifted =
