@@ -14,9 +14,6 @@ Inv-loop records form start count i₀ row₀ column₀ i row column = (i ≤ co
 abbrev μ-loop : tie.MeasureT-loop
 μ-loop records form start count i₀ row₀ column₀ i row column = count - i
 
-loop-holds : tie.Need-loop-holds Inv-loop μ-loop
-loop-holds c = (omega arith, scanned-none _ _ (c .before .before .before .pre .0 .columns))
-
 returns : tie.Need-returns Inv-loop μ-loop
 returns c =
     scanned-refused _ _ (c .before .before .before .loop .inv .1) _ _ (omega arith) (c .before .record-number .ensures) (c .if1 .taken)
@@ -29,21 +26,19 @@ add-row c =
 loop-again : tie.Need-loop-again Inv-loop μ-loop
 loop-again c =
     let passed = c .before .before in
-    let scanned = passed .before .before .before .loop .inv .1 in
-    (omega arith, scanned-row _ _ scanned (passed .before .record-number .ensures) (passed .if1 .left) (c .if2 .taken))
+    let number = passed .before in
+    (omega arith, scanned-row _ _ (number .before .before .loop .inv .1) (number .record-number .ensures) (passed .if1 .left) (c .if2 .taken))
 
 loop-again-2 : tie.Need-loop-again-2 Inv-loop μ-loop
 loop-again-2 c =
     let passed = c .before .before in
-    let scanned = passed .before .before .before .loop .inv .1 in
-    (omega arith, scanned-next _ _ scanned (passed .before .record-number .ensures) (passed .if1 .left) (c .if2 .left))
-
-returns-2 : tie.Need-returns-2 Inv-loop μ-loop
-returns-2 c = sym (refusal-none _ _ _ (λ k l. c .before .loop .inv .1 .before k (omega arith)))
+    let number = passed .before in
+    (omega arith, scanned-next _ _ (number .before .before .loop .inv .1) (number .record-number .ensures) (passed .if1 .left) (c .if2 .left))
 
 pub first-refusal-spec : {M : Type 1} → statement M
 first-refusal-spec =
     tie.close
-    (tie.spec Inv-loop μ-loop (λ c. omega arith) (λ c. omega arith) (λ c. omega arith) loop-holds (λ c κs. omega arith)
-    (λ c. omega arith) returns (λ c. omega arith) (λ c. omega arith) add-row (λ c. omega arith) loop-again (λ c. omega arith)
-    loop-again-2 returns-2)
+    (tie.spec Inv-loop μ-loop (λ c. omega arith) (λ c. omega arith) (λ c. omega arith)
+    (λ c. (omega arith, scanned-none _ _ (c .before .before .before .pre .0 .columns))) (λ c κs. omega arith) (λ c. omega arith) returns
+    (λ c. omega arith) (λ c. omega arith) add-row (λ c. omega arith) loop-again (λ c. omega arith) loop-again-2
+    (λ c. sym (refusal-none _ _ _ (λ k l. c .before .loop .inv .1 .before k (omega arith)))))
