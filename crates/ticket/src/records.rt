@@ -7,7 +7,7 @@ ghost use Rattle.ticket.specs.Laws.Limits.{Sizes, Numbers};
 ghost use Rattle.ticket.specs.Laws.All.{all};
 ghost use Rattle.ticket.specs.Laws.Forms.{entriesForm, partAnswer, testedAt, Holds, Ranged};
 ghost use Rattle.ticket.specs.Laws.Passing.{passing, passingAt, rowPassing};
-ghost use Rattle.ticket.specs.Laws.Parts.{MakesTests, PartReady, ReadReady, partRead};
+ghost use Rattle.ticket.specs.Laws.Parts.{MakesTests, ReadReady, partRead};
 use crate::Answer;
 use crate::PartNumber;
 use crate::Setting;
@@ -74,7 +74,7 @@ fn read_records(setting: Setting, ticket: &[u8]) -> Answer
 
 // The answer of a part. The tests are made without a branch first; one by one, for the first that fails, only where some record fails.
 fn read_part(setting: Setting, ticket: &[u8], which: PartNumber) -> Answer
-    requires { ⌜ PartReady setting (now ticket) (which .0) ⌝ }
+    requires { ⌜ ReadReady setting (now ticket) × (which .0 < 4) ⌝ }
     ensures { λ r. ⌜ r ≡ partRead setting (now (ticket .entry)) (which .0) ⌝ }
 {
     let form = form_of(setting, which);

@@ -4,8 +4,7 @@
 --   MakesTests F P     the form F of the code makes the tests of the part P
 --   forms-make         the forms of the parts do
 --   ReadReady G t      setting and length pass their tests
---   PartReady G t w    so they do, and w is the number of a part
---   PartRecords G t w b F   so they are, b are the bytes of the part, and F makes its tests
+--   PartRecords G t w b F   so they do, b are the bytes of part w, and F makes its tests
 --   part-holds, part-early   then the part can be read by its form, and does not start late
 --   partRead G t w, part-answer   the answer of part w, and that it is the code's by the form of the part
 --   ReadTo G t w       the records before part w pass
@@ -100,22 +99,19 @@ pub record ReadReady (G : Setting) (t : List ℕ) : Type 0 where
   pub numbers : Numbers G
   pub long : length t ≡ ticketLength G
 
-pub record PartReady (G : Setting) (t : List ℕ) (w : ℕ) : Type 0 where
-  pub ready : ReadReady G t
-  pub known : w < 4
-
 unfoldable pub partRead : Setting → List ℕ → ℕ → Answer
 partRead G t w = firstRefusal (start G w) (partSize (part G w)) (λ i. recordNumber G t (start G w + i))
 
 -- b are the bytes of a part that can be read, and F makes its tests
 pub record PartRecords (G : Setting) (t : List ℕ) (w : ℕ) (b : List ℕ) (F : Form) : Type 0 where
-  pub ready : PartReady G t w
+  pub ready : ReadReady G t
+  pub known : w < 4
   pub bytes : b ≡ partBytes (clamped G) t w
   pub makes : MakesTests F (part G w)
 
 module _ {G : Setting} {t : List ℕ} {w : ℕ} {b : List ℕ} {F : Form} (part-is : PartRecords G t w b F) where
   same : clamped G ≡ G
-  same = clamped-same (part-is .ready .ready .counts .sizes) (part-is .ready .ready .numbers)
+  same = clamped-same (part-is .ready .counts .sizes) (part-is .ready .numbers)
 
   size : F .rows * F .columns ≡ partSize (part G w)
   size = rw (part-is .makes .rows, part-is .makes .columns)
@@ -124,15 +120,15 @@ module _ {G : Setting} {t : List ℕ} {w : ℕ} {b : List ℕ} {F : Form} (part-
   wide : 1 ≤ part G w .columns
   unfolding parts part
   wide =
-      let s = part-is .ready .ready .counts .sizes in
-      each-part G (λ w. 1 ≤ part G w .columns) (s .inner .0) (s .columns .0) (s .columns .0) (s .columns .0) w (part-is .ready .known)
+      let s = part-is .ready .counts .sizes in
+      each-part G (λ w. 1 ≤ part G w .columns) (s .inner .0) (s .columns .0) (s .columns .0) (s .columns .0) w (part-is .known)
 
   pub part-holds : Holds b F
   part-holds =
       record {
         columns = rw (part-is .makes .columns) wide;
-        few = omega (arith, size, ends-within G w, parts-are G .all, part-is .ready .ready .counts);
-        long = rw (part-is .bytes, same) (omega (arith, size, part-bytes-long G t w (part-is .ready .ready .long)));
+        few = omega (arith, size, ends-within G w, parts-are G .all, part-is .ready .counts);
+        long = rw (part-is .bytes, same) (omega (arith, size, part-bytes-long G t w (part-is .ready .long)));
         range = part-is .makes .ranged;
       }
 
@@ -143,23 +139,15 @@ module _ {G : Setting} {t : List ℕ} {w : ℕ} {b : List ℕ} {F : Form} (part-
       let P = part G w in
       let value = valueAt t (start G w + i) in
       let index : start G w + i - start G w ≡ i = omega arith in
-      rw (
-        part-is .bytes,
-        same,
-        holder-at G m,
-        index,
-        part-is .makes .kind,
-        part-is .makes .columns,
-        part-is .makes .outside,
-        form-of-part G t w m (P .kind) (i / P .columns) (i % P .columns),
-        value-of-part G t w m,
-      )
+      let makes = part-is .makes in
+      rw (part-is .bytes, same, holder-at G m, index, makes .kind, makes .columns, makes .outside)
+      (rw (form-of-part G t w m (P .kind) (i / P .columns) (i % P .columns), value-of-part G t w m)
       (number-range (formed t (start G w + i) (P .kind) (i / P .columns) (i % P .columns)) value
-      (ltb ((value + F .shift) % modulus) (F .limit)) (P .range value) (P .outside) (part-is .makes .range value))
+      (ltb ((value + F .shift) % modulus) (F .limit)) (P .range value) (P .outside) (makes .range value)))
 
   module _ {a : ℕ} (from : a ≡ start (clamped G) w) where
     pub part-early : a < 2 ^ 16
-    part-early = rw (from, same) (omega (arith, ends-within G w, parts-are G .all, part-is .ready .ready .counts))
+    part-early = rw (from, same) (omega (arith, ends-within G w, parts-are G .all, part-is .ready .counts))
 
     pub part-answer : partAnswer F a b ≡ partRead G t w
     unfolding partRead

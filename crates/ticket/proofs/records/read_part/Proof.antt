@@ -7,7 +7,9 @@ use Rattle.ticket.proofs.records.read_part.Tie as tie
 
 known : (c : tie.After-part) → let start = c .before .before .before in
     PartRecords (start .args .setting) (start .args .ticket .now) (start .args .which .0) (c .part .result .now) (c .before .form-of .result)
-known c = record { ready = c .before .before .before .pre; bytes = c .part .ensures; makes = c .before .form-of .ensures }
+known c =
+    let pre = c .before .before .before .pre in
+    record { ready = pre .0; known = pre .1; bytes = c .part .ensures; makes = c .before .form-of .ensures }
 
 pub read-part-spec : {M : Type 1} → statement M
 read-part-spec =

@@ -11,9 +11,6 @@ Inv-loop setting ticket which₀ which = (which ≤ 4) × ReadTo setting ticket 
 abbrev μ-loop : tie.MeasureT-loop
 μ-loop setting ticket which₀ which = 4 - which
 
-ready : tie.Need-read-part-requires Inv-loop μ-loop
-ready c κs = record { ready = c .before .before .before .pre; known = omega arith }
-
 returns : tie.Need-returns Inv-loop μ-loop
 returns c =
     let read = c .before .before in
@@ -27,5 +24,5 @@ loop-again c =
 pub read-records-spec : {M : Type 1} → statement M
 read-records-spec =
     tie.close
-    (tie.spec Inv-loop μ-loop (λ c. (omega arith, read-none _ _)) ready returns (λ c. omega arith) (λ c. omega arith) loop-again
-    (λ c. read-all _ _ (omega arith) (c .before .loop .inv .1)))
+    (tie.spec Inv-loop μ-loop (λ c. (omega arith, read-none _ _)) (λ c κs. (c .before .before .before .pre, omega arith)) returns
+    (λ c. omega arith) (λ c. omega arith) loop-again (λ c. read-all _ _ (omega arith) (c .before .loop .inv .1)))
