@@ -221,11 +221,8 @@ fn record_number(records: &[u8], form: Form, i: u32, row: u8, column: u8) -> u32
     let value = value_at(records, i as usize);
     let least = value.is_least();
     let shifted = value.add(Residue(form.shift)).0;
-    unless(
-        formed,
-        5,
-        unless(least, 6, unless(shifted < form.limit, form.outside, 0)),
-    )
+    let value_number = unless(least, 6, unless(shifted < form.limit, form.outside, 0));
+    unless(formed, 5, value_number)
 }
 
 // Whether record i has the kind, a zero byte, the row and the column.

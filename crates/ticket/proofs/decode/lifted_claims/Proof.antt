@@ -23,10 +23,13 @@ loop-again c =
           (c .lifted .ensures ∙ rw (shifted .shifted .ensures, c .before .value-at2 .ensures, shifted .before .value-at .ensures)),
     )
 
+returns : tie.Need-returns Inv-loop μ-loop
+returns c = filled-to (omega arith) (c .before .loop .inv .1)
+
 pub lifted-claims-spec : {M : Type 1} → statement M
 lifted-claims-spec =
     tie.close
     (tie.spec Inv-loop μ-loop (λ c κs. search needs) (λ c κs. search needs) (λ c. (omega arith, filled-none)) (λ c κs. omega arith)
     (λ c κs. search needs) (λ c κs. omega arith) (λ c κs. search needs) (λ c. omega arith)
     (λ c. omega (arith, c .before .before .before .before .before .loop .inv .1 .long)) (λ c. omega arith) (λ c. omega arith) loop-again
-    (λ c. c .before .loop .inv .1 .long) (λ c. filled-to (omega arith) (c .before .loop .inv .1)))
+    (λ c. c .before .loop .inv .1 .long) returns)

@@ -21,8 +21,11 @@ loop-again c =
     let read = c .before .before in
     (omega arith, read-next _ _ _ (read .before .before .loop .inv .1) (read .read-part .ensures) (c .if1 .left))
 
+returns-2 : tie.Need-returns-2 Inv-loop μ-loop
+returns-2 c = read-all _ _ (omega arith) (c .before .loop .inv .1)
+
 pub read-records-spec : {M : Type 1} → statement M
 read-records-spec =
     tie.close
     (tie.spec Inv-loop μ-loop (λ c. (omega arith, read-none _ _)) (λ c κs. (c .before .before .before .pre, omega arith)) returns
-    (λ c. omega arith) (λ c. omega arith) loop-again (λ c. read-all _ _ (omega arith) (c .before .loop .inv .1)))
+    (λ c. omega arith) (λ c. omega arith) loop-again returns-2)

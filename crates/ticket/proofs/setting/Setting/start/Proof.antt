@@ -8,6 +8,12 @@ use Rattle.ticket.proofs.setting.Setting.start.Tie as tie
 known : (c : tie.After-size) → PartsAre (clamped (c .before .args .self)) × Clamped (clamped (c .before .args .self))
 known c = (parts-are _, clamped-small (c .before .args .self))
 
+returns-2 : tie.Need-returns-2
+returns-2 c = rw (c .if2 .taken) (omega (arith, known (c .before .before .before .before .before)))
+
+returns-4 : tie.Need-returns-4
+returns-4 c = rw (c .if4 .taken) (omega (arith, known (c .before .before .before .before .before .before .before)))
+
 returns-5 : tie.Need-returns-5
 returns-5 c =
     let first = c .before .before .before .before .before .before .before in
@@ -19,6 +25,4 @@ start-spec =
     (tie.spec (λ c κs. search needs) (λ c κs. search needs) (λ c. omega (arith, known (c .before))) (λ c κs. search needs)
     (λ c. omega (arith, known (c .before .before))) (λ c κs. search needs) (λ c. omega (arith, known (c .before .before .before)))
     (λ c. rw (c .if1 .taken) (omega (arith, known (c .before .before .before .before))))
-    (λ c. rw (c .if2 .taken) (omega (arith, known (c .before .before .before .before .before))))
-    (λ c. rw (c .if3 .taken) (omega (arith, known (c .before .before .before .before .before .before))))
-    (λ c. rw (c .if4 .taken) (omega (arith, known (c .before .before .before .before .before .before .before)))) returns-5)
+    returns-2 (λ c. rw (c .if3 .taken) (omega (arith, known (c .before .before .before .before .before .before)))) returns-4 returns-5)
