@@ -11,10 +11,8 @@
 --   slice-long, first-word, last-word   how many they are, and the words of its first four bytes and of its last
 --   header-formed        the form of a record by its first four bytes as one word
 --   tested-is            the number, by the tests as the code makes them
---   Scanned b F i r c    the records before i pass, and i is in row r, column c
---   scanned-none         before the first record
---   scanned-refused      record i is refused: the answer of the part
---   scanned-next, scanned-row   record i passes too: the next one is in the same row, or at the beginning of the next
+--   scanned-refused      the records before i pass, and i is refused: the answer of the part
+--   scanned-next         the records before i pass, and i does too
 --   FormedBytes b i κ r c, formed-exactly   the form of a record, byte by byte
 --   value-is             the value of a record, by its bytes
 use Prim.Native.Nat.{ℕ, _+_, _-_, _*_, _/_, _%_, _^_, _≤_, _<_}
@@ -34,7 +32,7 @@ use Rattle.residue.specs.Laws.Residues.{residue-of-natural}
 use Rattle.algebra.specs.Rules.{word}
 use Rattle.algebra.specs.Laws.Bytes.{word-eqb}
 use Rattle.algebra.specs.Laws.Fills.{part-of, part-long}
-use Rattle.algebra.specs.Laws.Positions.{Position, position-none, row-of, column-of, position-next, position-row}
+use Rattle.algebra.specs.Laws.Positions.{Position, row-of, column-of}
 use Rattle.ticket.specs.Rules.{unless, Test, test, firstFailed, recordBytes, byteAt, formed, valueAt, halfRange, refusal, firstRefusal}
 use Rattle.ticket.specs.Laws.Limits.{both}
 use Rattle.ticket.specs.Laws.Scans.{refusal-is}
@@ -118,37 +116,16 @@ unfolding testedAt firstFailed
 tested-is bytes F i row column form value least shifted =
     rw (form, least, shifted, value, residue-of-natural modulus modulus-positive (valueAt bytes i + F .shift))
 
-pub record Scanned (bytes : List ℕ) (F : Form) (i row column : ℕ) : Type 0 where
-  pub at : Position (F .columns) i row column
-  pub before : (k : ℕ) → k < i → tested bytes F k ≡ 0
+module _ (bytes : List ℕ) (F : Form) {i row column number : ℕ} (at : Position (F .columns) i row column)
+    (number-is : number ≡ testedAt bytes F i row column) (before : (k : ℕ) → k < i → tested bytes F k ≡ 0) where
+  number-at : number ≡ tested bytes F i
+  number-at = number-is ∙ sym (rw (row-of at, column-of at))
 
-module _ (bytes : List ℕ) (F : Form) where
-  pub scanned-none : 1 ≤ F .columns → Scanned bytes F 0 0 0
-  scanned-none h = record { at = position-none h; before = λ k l. omega arith }
+  pub scanned-refused : (from count : ℕ) → i < count → (number ≡ 0 → ⊥) → refusal number (from + i) ≡ firstRefusal from count (tested bytes F)
+  scanned-refused from count l d = rw number-at (sym (refusal-is from count i (tested bytes F) l before (λ z. d (number-at ∙ z))))
 
-  module _ {i row column : ℕ} (s : Scanned bytes F i row column) where
-    scanned-number : testedAt bytes F i row column ≡ tested bytes F i
-    scanned-number = sym (rw (row-of (s .at), column-of (s .at)))
-
-    pub scanned-refused : (from count : ℕ) {number : ℕ} → i < count → number ≡ testedAt bytes F i row column → (number ≡ 0 → ⊥)
-        → refusal number (from + i) ≡ firstRefusal from count (tested bytes F)
-    scanned-refused from count l e d =
-        ap (λ n. refusal n (from + i)) (e ∙ scanned-number)
-        ∙ sym (refusal-is from count i (tested bytes F) l (s .before) (λ z. d (e ∙ scanned-number ∙ z)))
-
-    module _ {number : ℕ} (number-is : number ≡ testedAt bytes F i row column) (passed : number ≡ 0) where
-      before-next : (k : ℕ) → k < i + 1 → tested bytes F k ≡ 0
-      before-next k l =
-          elim (ℕ-discrete k i) [
-            | yes e ↦ ap (tested bytes F) e ∙ sym scanned-number ∙ sym number-is ∙ passed
-            | no d ↦ s .before k (omega arith)
-          ]
-
-      pub scanned-next : (column + 1 ≡ F .columns → ⊥) → Scanned bytes F (i + 1) row (column + 1)
-      scanned-next d = record { at = position-next (s .at) d; before = before-next }
-
-      pub scanned-row : column + 1 ≡ F .columns → Scanned bytes F (i + 1) (row + 1) 0
-      scanned-row e = record { at = position-row (s .at) e; before = before-next }
+  pub scanned-next : number ≡ 0 → (k : ℕ) → k < i + 1 → tested bytes F k ≡ 0
+  scanned-next z k l = elim (ℕ-discrete k i) [ yes e ↦ rw (e, ← number-at) z | no d ↦ before k (omega arith) ]
 
 pub record FormedBytes (bytes : List ℕ) (i kind row column : ℕ) : Type 0 where
   pub kind-byte : byteAt bytes i 0 ≡ kind

@@ -33,10 +33,8 @@ use Rattle.ticket.specs.Laws.Tests.{AllHold, first-holds, rest-hold, Num
 pub both : (a b : Bool) → (a && b) ≡ true → (a ≡ true) × (b ≡ true)
 both a b e = and-eq-true-iff a b .0 e
 
-pub within-both : (low high n : ℕ) → within low high n ≡ true → (low ≤ n) × (n ≤ high)
-within-both low high n e =
-    let h = both (leb low n) (leb n high) e in
-    (leb-true low n (h .0), leb-true n high (h .1))
+pub within-both : {low high n : ℕ} → within low high n ≡ true → (low ≤ n) × (n ≤ high)
+within-both e = let h = both _ _ e in (leb-true _ _ (h .0), leb-true _ _ (h .1))
 
 pub record Sizes (G : Setting) : Type 0 where
   pub rows : (1 ≤ G .rows) × (G .rows ≤ mostRows)
@@ -82,32 +80,21 @@ counts {G} sizes =
 pub sizes-of : (G : Setting) → sizesWithin G ≡ true → Sizes G
 unfolding sizesWithin
 sizes-of G e =
-    let h = both (within 1 mostRows (G .rows) && within 1 mostInner (G .inner) && within 1 mostColumns (G .columns)) (within 1 mostVectors (G .vectors)) e in
-    let k = both (within 1 mostRows (G .rows) && within 1 mostInner (G .inner)) (within 1 mostColumns (G .columns)) (h .0) in
-    let l = both (within 1 mostRows (G .rows)) (within 1 mostInner (G .inner)) (k .0) in
-    record {
-      rows = within-both 1 mostRows (G .rows) (l .0);
-      inner = within-both 1 mostInner (G .inner) (l .1);
-      columns = within-both 1 mostColumns (G .columns) (k .1);
-      vectors = within-both 1 mostVectors (G .vectors) (h .1);
-    }
+    let h = both _ _ e in
+    let k = both _ _ (h .0) in
+    let l = both _ _ (k .0) in
+    record { rows = within-both (l .0); inner = within-both (l .1); columns = within-both (k .1); vectors = within-both (h .1) }
 
 pub numbers-of : (G : Setting) → numbersWithin G ≡ true → Numbers G
 unfolding numbersWithin
 numbers-of G e =
-    let h = both (within 2 mostScale (G .scale) && within 1 mostBound (G .bound)) (within 1 mostWidth (G .width)) e in
-    let k = both (within 2 mostScale (G .scale)) (within 1 mostBound (G .bound)) (h .0) in
-    record {
-      scale = within-both 2 mostScale (G .scale) (k .0);
-      bound = within-both 1 mostBound (G .bound) (k .1);
-      width = within-both 1 30 (G .width) (h .1);
-    }
+    let h = both _ _ e in
+    let k = both _ _ (h .0) in
+    record { scale = within-both (k .0); bound = within-both (k .1); width = within-both (h .1) }
 
 fitted-of : (G : Setting) → fits G ≡ true → Fitted G
 unfolding fits
-fitted-of G e =
-    let h = both (leb (reach G + G .scale - 1) (lift G)) (ltb (2 ^ G .width * G .scale) modulus) e in
-    record { sums = leb-true _ _ (h .0); claims = ltb-true _ _ (h .1) }
+fitted-of G e = let h = both _ _ e in record { sums = leb-true _ _ (h .0); claims = ltb-true _ _ (h .1) }
 
 pub record Within (G : Setting) : Type 0 where
   pub sizes : Sizes G

@@ -78,8 +78,6 @@ pub passed-part : (b : List ℕ) (F : Form) (start : ℕ) {passed : Bool} → pa
 unfolding passingAt testedAt
 passed-part b F start e t =
     sym (refusal-none start (F .rows * F .columns) (tested b F) (λ k l.
-    let form = formed b k (F .kind) (k / F .columns) (k % F .columns) in
-    let two = both (form && ltb (valueAt b k) modulus) (ltb ((valueAt b k + F .shift) % modulus) (F .limit))
-    (all-at (F .rows * F .columns) (passing b F) (sym e ∙ t) k l) in
-    let first = both form (ltb (valueAt b k) modulus) (two .0) in
+    let two = both _ _ (all-at (F .rows * F .columns) (passing b F) (sym e ∙ t) k l) in
+    let first = both _ _ (two .0) in
     holding-number (one (first .0) (one (first .1) (one (two .1) none)))))
