@@ -18,12 +18,12 @@
 use Prim.Native.Nat.{ℕ, _+_, _-_, _*_, _/_, _%_, _^_, _≤_, _<_}
 use native.Mathlib.Decide.{ℕ-discrete}
 use native.Mathlib.Omega.{arith}
-use mathlib.Core.Path.{_≡_, refl, sym, ap, _∙_}
+use mathlib.Core.Path.{_≡_, refl, sym, _∙_}
 use mathlib.Core.Logic.{_↔_}
 use mathlib.Core.Bool.{Bool, true}
 use mathlib.Core.List.{List, [], _∷_}
 use borrow.Author.Tests.{eq-eqb, eqb-true}
-use lib.Dec.{ltb, eqb}
+use lib.Dec.{ltb, eqb, lit<}
 use lib.IntN.{pos, _+ℤ_}
 use lib.ListN.{length, getD, take, drop}
 use Rattle.residue.specs.Rules.{modulus, leastResidue}
@@ -88,17 +88,13 @@ module _ (b : List ℕ) (i : ℕ) where
   byte-of : (k : ℕ) → k < recordBytes → getD (recordSlice b i) k 0 ≡ byteAt b i k
   byte-of k l = part-of b (recordBytes * i) recordBytes k 0 l
 
-  word-of : (j k l m : ℕ) → j < recordBytes → k < recordBytes → l < recordBytes → m < recordBytes → let r = recordSlice b i in
-      word (getD r j 0) (getD r k 0) (getD r l 0) (getD r m 0) ≡ word (byteAt b i j) (byteAt b i k) (byteAt b i l) (byteAt b i m)
-  word-of j k l m hj hk hl hm = omega (arith, byte-of j hj, byte-of k hk, byte-of l hl, byte-of m hm)
-
   pub first-word : let r = recordSlice b i in
       word (getD r 0 0) (getD r 1 0) (getD r 2 0) (getD r 3 0) ≡ word (byteAt b i 0) (byteAt b i 1) (byteAt b i 2) (byteAt b i 3)
-  first-word = word-of 0 1 2 3 (omega arith) (omega arith) (omega arith) (omega arith)
+  first-word = rw (byte-of 0 (lit< tt), byte-of 1 (lit< tt), byte-of 2 (lit< tt), byte-of 3 (lit< tt))
 
   pub last-word : valueAt (recordSlice b i) 0 ≡ valueAt b i
   unfolding valueAt
-  last-word = word-of 4 5 6 7 (omega arith) (omega arith) (omega arith) (omega arith)
+  last-word = rw (byte-of 4 (lit< tt), byte-of 5 (lit< tt), byte-of 6 (lit< tt), byte-of 7 (lit< tt))
 
 pub header-formed : (bytes : List ℕ) (i : ℕ) {kind row column header expected : ℕ}
     → header ≡ word (byteAt bytes i 0) (byteAt bytes i 1) (byteAt bytes i 2) (byteAt bytes i 3)

@@ -9,7 +9,7 @@
 --   partRead G t w, part-answer   the answer of part w, and that it is the code's by the form of the part
 --   ReadTo G t w       the records before part w pass
 --   read-none, read-next, read-refused, read-all   no part yet, one that passes more, one that does not, and all parts
-use Prim.Native.Nat.{ℕ, suc, _+_, _-_, _*_, _/_, _%_, _^_, _≤_, _<_}
+use Prim.Native.Nat.{ℕ, _+_, _-_, _*_, _/_, _%_, _^_, _≤_, _<_}
 use native.Mathlib.Nat.{zero-add, add-zero, mod-eq-of-lt}
 use native.Mathlib.Decide.{decLe}
 use native.Mathlib.Omega.{arith}

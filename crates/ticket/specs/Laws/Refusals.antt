@@ -26,10 +26,10 @@ use lib.ListN.{length}
 use Rattle.ticket.specs.declared.setting.Setting.{Setting}
 use Rattle.ticket.specs.declared.Answer.{Answer}
 use Rattle.ticket.specs.Rules.{refusal, settingTests, settingNumber, parts, part, partSize, start, records, ticketLength, recordTests, recordNumber, firstRefusal, after, recordsReading, reading}
-use Rattle.ticket.specs.Laws.Tests.{AllHold, Failed, Numbered, here, later, hold-or-failed, holding-number, failed-number, failed-within}
+use Rattle.ticket.specs.Laws.Tests.{AllHold, Failed, Numbered, here, later, hold-or-failed, holding-number, failed-number, failed-within, tests-hold}
 use Rattle.ticket.specs.Laws.Limits.{setting-numbered}
 use Rattle.ticket.specs.Laws.Layout.{each-part, located-at, locatedTests, tests-located}
-use Rattle.ticket.specs.Laws.Scans.{refusal-none, refusal-is, after-passed, after-refused}
+use Rattle.ticket.specs.Laws.Scans.{refusal-none, refusal-is, zeros-or-first, after-passed, after-refused}
 
 pub record PassedTo (G : Setting) (t : List ℕ) (k : ℕ) : Type 0 where
   pub setting : AllHold (settingTests G)
@@ -90,27 +90,23 @@ module _ (G : Setting) (t : List ℕ) where
   unfolding reading recordsReading
   wrong-length d = rw (ne-eqb (length t) (ticketLength G) d)
 
-  passed-to-or-refused : PassedTo G t 0 → (n : ℕ) → n ≤ records G → PassedTo G t n ⊎ ((c : ℕ) × (k : ℕ) × Refused G t c k)
-  passed-to-or-refused none zero l = inl none
-  passed-to-or-refused none (suc n) l =
-      ⊎-elim
-      (λ p. ⊎-elim
-      (λ r. inl (record {
-        setting = p .setting;
-        long = p .long;
-        before = λ i m. elim (ℕ-discrete i n) [ yes e ↦ rw e r | no d ↦ p .before i (omega arith) ];
-      }))
-      (λ f. inr (f .0, n, by-record p (omega arith) (f .1)))
-      (hold-or-failed (recordTests G t n)))
-      inr
-      (passed-to-or-refused none n (omega arith))
+  record-passed : {k : ℕ} → k < records G → recordNumber G t k ≡ 0 → AllHold (recordTests G t k)
+  record-passed {k} l z = tests-hold 5 9 (recordTests G t k) (omega arith) (record-numbered G t l) z
 
   pub passed-or-refused : PassedTo G t (records G) ⊎ ((c : ℕ) × (k : ℕ) × Refused G t c k)
   passed-or-refused =
       ⊎-elim
       (λ s. elim (ℕ-discrete (length t) (ticketLength G)) [
         | yes e ↦
-            passed-to-or-refused (record { setting = s; long = e; before = λ i m. absurd (omega arith) }) (records G) (omega arith)
+            ⊎-elim
+            (λ z. inl (record { setting = s; long = e; before = λ i m. record-passed m (z i m) }))
+            (λ o. let at = o .1 in
+            let before : (i : ℕ) → i < o .0 → AllHold (recordTests G t i) = λ i m. record-passed (omega (arith, at .within)) (at .before i m) in
+            ⊎-elim
+            (λ h. absurd (at .other (holding-number h)))
+            (λ f. inr (f .0, o .0, by-record (record { setting = s; long = e; before = before }) (at .within) (f .1)))
+            (hold-or-failed (recordTests G t (o .0))))
+            (zeros-or-first (records G) (recordNumber G t))
         | no d ↦ inr (4, 0, by-length s d)
       ])
       (λ f. inr (f .0, 0, by-setting (f .1)))

@@ -13,13 +13,6 @@ start c = c .before .before .before .before .before .before .before
 half : (c : tie.After-half) → c .half .result .0 ≡ halfRange (start c .args .setting)
 half c = c .half .ensures ∙ ap halfRange (clamped-same (start c .pre .0) (start c .pre .1))
 
-returns : tie.Need-returns
-returns c = rw (c .before .if1 .taken, c .entries-form .ensures) (forms-make (c .before .before .before .before .before .pre .1) .0)
-
-returns-2 : tie.Need-returns-2
-returns-2 c =
-    rw (c .before .if2 .taken, c .entries-form2 .ensures) (forms-make (c .before .before .before .before .before .before .pre .1) .1)
-
 returns-3 : tie.Need-returns-3
 returns-3 c = rw (c .before .if3 .taken, half c) (forms-make (start c .pre .1) .2)
 
@@ -32,5 +25,8 @@ returns-4 c =
 pub form-of-spec : {M : Type 1} → statement M
 form-of-spec =
     tie.close
-    (tie.spec (λ c. search needs) (λ c. search needs) (λ c. search needs) (λ c κs. search needs) returns (λ c κs. search needs)
-    returns-2 (λ c κs. search needs) (λ c. omega (arith, half c, half-small (start c .pre .1))) returns-3 returns-4)
+    (tie.spec (λ c. search needs) (λ c. search needs) (λ c. search needs) (λ c κs. search needs)
+    (λ c. rw (c .before .if1 .taken, c .entries-form .ensures) (forms-make (c .before .before .before .before .before .pre .1) .0))
+    (λ c κs. search needs)
+    (λ c. rw (c .before .if2 .taken, c .entries-form2 .ensures) (forms-make (c .before .before .before .before .before .before .pre .1) .1))
+    (λ c κs. search needs) (λ c. omega (arith, half c, half-small (start c .pre .1))) returns-3 returns-4)
