@@ -194,9 +194,7 @@ module _ {G : Setting} {t : List ℕ} (passed : Passed G t) where
       let shifted = shifted-entry modulus modulus-odd modulus-below narrowShift v (bound-small .0) least (omega (arith, passed .numbers .bound)) in
       let x = carriedSum modulus v narrowShift in
       let z = signedEntry modulus v in
-      let parts = parts-within z (G .bound) size in
-      let few : x < 65_536 =
-      omega (arith, ap positive shifted, ap negative shifted, parts-sum z (pos narrowShift), passed .numbers .bound) in
+      let few : x < 65_536 = omega (arith, shifted-most narrowShift z shifted size, passed .numbers .bound) in
       ap (λ n. pos n -ℤ pos narrowShift) (mod-eq-of-lt few)
       ∙ equal-of-parts (pos x -ℤ pos narrowShift) z
       (omega (arith, parts-difference (pos x) (pos narrowShift), ap positive shifted, ap negative shifted, parts-sum z (pos narrowShift)))

@@ -15,7 +15,7 @@
 --   reading-form           row and products of reading's answer are 0
 --   ReadingRow G a         the answer a is a row of the published table with a number from 1 to 9, within its bounds
 --   refused-in-table       every refusal is one
-use Prim.Native.Nat.{ℕ, zero, suc, _+_, _≤_, _<_}
+use Prim.Native.Nat.{ℕ, _+_, _≤_, _<_}
 use native.Mathlib.Decide.{ℕ-discrete}
 use native.Mathlib.Omega.{arith}
 use mathlib.Core.Path.{_≡_, sym, ap, _∙_}
