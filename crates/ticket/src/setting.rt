@@ -69,12 +69,13 @@ impl Setting {
     pub fn number(self) -> u32
         ensures { λ r. ⌜ r ≡ settingNumber self ⌝ }
     {
-        let sizes = self.sizes_within();
-        let numbers = self.numbers_within();
-        if sizes & numbers {
-            return unless(self.fits(), 3, 0);
+        if !self.sizes_within() {
+            return 1;
         }
-        unless(sizes, 1, 2)
+        if !self.numbers_within() {
+            return 2;
+        }
+        unless(self.fits(), 3, 0)
     }
 
     // How many records a part has.

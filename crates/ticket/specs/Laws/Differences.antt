@@ -92,13 +92,7 @@ module _ {G : Setting} {t : List ℕ} (passed : Passed G t) where
         let claimed : natAbs (claim G t i j) ≤ natAbs (pos (G .scale) *ℤ quotient G t i j) + valueIn G t ofRemainders i j =
         size-sum (pos (G .scale) *ℤ quotient G t i j) (remainder G t i j) in
         let room : 2 * halfRange G * G .scale < modulus = rw (half-double {G = G} (passed .numbers)) (passed .fitted .claims) in
-        omega (
-          arith,
-          size-difference (claim G t i j) (due G t i j),
-          remainder-below,
-          size-due,
-          passed .fitted .sums,
-        )
+        omega (arith, size-difference (claim G t i j) (due G t i j), remainder-below, size-due, passed .fitted .sums)
 
     pub residue-quotient : leastResidue modulus (quotient G t i j) ≡ valueIn G t ofQuotients i j
     unfolding quotient shiftedQuotient parts part

@@ -135,18 +135,8 @@ formed-exactly bytes i kind row column = (
   λ e. let h = both _ _ e in
       let k = both _ _ (h .0) in
       let l = both _ _ (k .0) in
-      record {
-        kind-byte = eqb-true _ _ (l .0);
-        zero-byte = eqb-true _ _ (l .1);
-        row-byte = eqb-true _ _ (k .1);
-        column-byte = eqb-true _ _ (h .1);
-      },
-  λ h. rw (
-    eq-eqb _ _ (h .kind-byte),
-    eq-eqb _ _ (h .zero-byte),
-    eq-eqb _ _ (h .row-byte),
-    eq-eqb _ _ (h .column-byte),
-  ),
+      record { kind-byte = eqb-true _ _ (l .0); zero-byte = eqb-true _ _ (l .1); row-byte = eqb-true _ _ (k .1); column-byte = eqb-true _ _ (h .1) },
+  λ h. rw (eq-eqb _ _ (h .kind-byte), eq-eqb _ _ (h .zero-byte), eq-eqb _ _ (h .row-byte), eq-eqb _ _ (h .column-byte)),
 )
 
 pub value-is : (bytes : List ℕ) (i : ℕ) → valueAt bytes i ≡ word (byteAt bytes i 4) (byteAt bytes i 5) (byteAt bytes i 6) (byteAt bytes i 7)

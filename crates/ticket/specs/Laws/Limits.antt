@@ -103,11 +103,8 @@ pub record Within (G : Setting) : Type 0 where
 pub limits-of : (G : Setting) → AllHold (settingTests G) → Within G
 unfolding settingTests
 limits-of G h =
-    record {
-      sizes = sizes-of G (first-holds h);
-      numbers = numbers-of G (first-holds (rest-hold h));
-      fitted = fitted-of G (first-holds (rest-hold (rest-hold h)));
-    }
+    let rest = rest-hold h in
+    record { sizes = sizes-of G (first-holds h); numbers = numbers-of G (first-holds rest); fitted = fitted-of G (first-holds (rest-hold rest)) }
 
 pub setting-numbered : (G : Setting) → Numbered 1 3 (settingTests G)
 unfolding settingTests Numbered
@@ -157,13 +154,8 @@ clamped G =
 pub clamped-same : {G : Setting} → Sizes G → Numbers G → clamped G ≡ G
 unfolding clamped
 clamped-same {G} sizes numbers =
-    rw (
-      min-eq-left (sizes .rows .1),
-      min-eq-left (sizes .inner .1),
-      min-eq-left (sizes .columns .1),
-      min-eq-left (numbers .scale .1),
-      min-eq-left (numbers .width .1),
-    )
+    rw (min-eq-left (sizes .rows .1), min-eq-left (sizes .inner .1), min-eq-left (sizes .columns .1))
+    (rw (min-eq-left (numbers .scale .1), min-eq-left (numbers .width .1)))
 
 pub record Clamped (G : Setting) : Type 0 where
   pub entries-A : G .rows * G .inner ≤ mostRows * mostInner

@@ -35,14 +35,7 @@ module _ (G : Setting) (t : List ℕ) where
   passed-of e =
       ⊎-elim
       (λ p. let limits = limits-of G (p .setting) in
-      record {
-        setting = p .setting;
-        counts = counts (limits .sizes);
-        numbers = limits .numbers;
-        fitted = limits .fitted;
-        long = p .long;
-        each = p .before;
-      })
+      record { setting = p .setting; counts = counts (limits .sizes); numbers = limits .numbers; fitted = limits .fitted; long = p .long; each = p .before })
       (λ x. absurd (omega (arith, e, refused-number G t (x .2), ap (λ a. a .number) (refused-reading G t (x .2)))))
       (passed-or-refused G t)
 

@@ -49,14 +49,8 @@ pub zeros-or-first : (n : ℕ) (f : ℕ → ℕ) → ((k : ℕ) → k < n → f 
 zeros-or-first n f =
     ⊎-elim
     (λ h. inl (λ k l. eqb-true (f k) 0 (h k l)))
-    (λ o. inr (
-      o .0,
-      record {
-        within = o .1 .within;
-        before = λ k l. eqb-true (f k) 0 (o .1 .before k l);
-        other = eqb-false (f (o .0)) 0 (o .1 .fails);
-      },
-    ))
+    (λ o. let at = o .1 in
+    inr (o .0, record { within = at .within; before = λ k l. eqb-true (f k) 0 (at .before k l); other = eqb-false (f (o .0)) 0 (at .fails) }))
     (holds-or-first n (λ k. eqb (f k) 0))
 
 pub after-passed : (a b : Answer) → a .number ≡ 0 → after a b ≡ b

@@ -1,43 +1,35 @@
-use Prim.Native.Nat.{ℕ}
-use mathlib.Core.Path.{_≡_, refl, _∙_}
-use mathlib.Core.Bool.{Bool, true, false, true≢false, _&&_}
+use mathlib.Core.Path.{_≡_, sym, _∙_}
+use mathlib.Core.Bool.{true}
 use borrow.Author.Needs.{needs}
-use Rattle.ticket.specs.Rules.{unless, settingTests, firstFailed}
-use Rattle.ticket.specs.Laws.Limits.{both, sizes-of, numbers-of}
+use borrow.Author.Tests.{not-true, not-false}
+use Rattle.ticket.specs.Rules.{sizesWithin, numbersWithin, settingTests, firstFailed}
+use Rattle.ticket.specs.Laws.Limits.{sizes-of, numbers-of}
 use Rattle.ticket.proofs.setting.Setting.number.Statement.{statement}
 use Rattle.ticket.proofs.setting.Setting.number.Tie as tie
 
-hold : (c : tie.Then1) → (c .before .before .sizes-within .result ≡ true) × (c .before .numbers-within .result ≡ true)
-hold c = both _ _ (c .if1 .taken)
+sizes : (c : tie.Else1) → sizesWithin (c .before .before .args .self) ≡ true
+sizes c = sym (c .before .sizes-within .ensures) ∙ not-false _ (c .if1 .left)
 
--- where not both tests hold, a third does not matter
-first-two : (a b : Bool) (n : ℕ) → (a && b) ≡ false → unless a 1 2 ≡ unless a 1 (unless b 2 n)
-first-two true true n e = absurd (true≢false e)
-first-two true false n e = refl
-first-two false b n e = refl
-
-fits-requires : tie.Need-fits-requires
-fits-requires c κs =
-    (sizes-of _ (rw (c .before .before .sizes-within .ensures) at (hold c .0)), numbers-of _ (rw (c .before .numbers-within .ensures) at (hold c .1)))
+numbers : (c : tie.Else2) → numbersWithin (c .before .before .before .before .args .self) ≡ true
+numbers c = sym (c .before .numbers-within .ensures) ∙ not-false _ (c .if2 .left)
 
 returns : tie.Need-returns
 unfolding settingTests firstFailed
-returns c =
-    let at = c .before .before in
-    let two = at .before in
-    c .unless .ensures
-    ∙ rw (← two .before .sizes-within .ensures, ← two .numbers-within .ensures, hold at .0, hold at .1, c .before .fits2 .ensures)
+returns c = rw (← c .before .sizes-within .ensures, not-true (c .before .sizes-within .result) (c .if1 .taken))
 
 returns-2 : tie.Need-returns-2
 unfolding settingTests firstFailed
 returns-2 c =
+    rw (sizes (c .before .before), ← c .before .numbers-within .ensures, not-true (c .before .numbers-within .result) (c .if2 .taken))
+
+returns-3 : tie.Need-returns-3
+unfolding settingTests firstFailed
+returns-3 c =
     let two = c .before .before in
-    c .unless2 .ensures
-    ∙ rw (← two .before .sizes-within .ensures, ← two .numbers-within .ensures)
-    (first-two (two .before .sizes-within .result) (two .numbers-within .result) _ (c .before .if1 .left))
+    c .unless .ensures ∙ rw (sizes (two .before .before), numbers two, c .before .fits2 .ensures)
 
 pub number-spec : {M : Type 1} → statement M
 number-spec =
     tie.close
-    (tie.spec (λ c κs. search needs) (λ c κs. search needs) fits-requires (λ c κs. search needs) returns (λ c κs. search needs)
-    returns-2)
+    (tie.spec (λ c κs. search needs) returns (λ c κs. search needs) returns-2
+    (λ c κs. (sizes-of _ (sizes (c .before .before)), numbers-of _ (numbers c))) (λ c κs. search needs) returns-3)
