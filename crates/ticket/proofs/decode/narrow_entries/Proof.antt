@@ -22,6 +22,9 @@ abbrev μ-loop : tie.MeasureT-loop
 fits : (c : tie.After-entry Inv-loop μ-loop) → SFits w16 (c .entry .result .0)
 fits c = rw (c .entry .ensures) (narrow-bits (c .before .shifted .result .0))
 
+loop-holds : tie.Need-loop-holds Inv-loop μ-loop
+loop-holds c = (omega arith, filled-none)
+
 loop-again : tie.Need-loop-again Inv-loop μ-loop
 loop-again c =
     let entry = c .before .before in
@@ -34,7 +37,7 @@ loop-again c =
 pub narrow-entries-spec : {M : Type 1} → statement M
 narrow-entries-spec =
     tie.close
-    (tie.spec Inv-loop μ-loop (λ c κs. search needs) (λ c. (omega arith, filled-none)) (λ c κs. omega arith)
+    (tie.spec Inv-loop μ-loop (λ c κs. search needs) loop-holds (λ c κs. omega arith)
     (λ c κs. omega (arith, modulus-above)) (λ c κs. search needs) (λ c. read-fits w32 tt (fits (c .before .before))) (λ c. omega arith)
     (λ c. omega (arith, c .before .before .before .before .before .before .loop .inv .1 .long)) (λ c. omega arith) (λ c. omega arith)
     loop-again (λ c. c .before .loop .inv .1 .long) (λ c. filled-to (omega arith) (c .before .loop .inv .1)))

@@ -14,6 +14,9 @@ Inv-loop records shift list₀ count k₀ list k = (k ≤ count) × Filled 0 lis
 abbrev μ-loop : tie.MeasureT-loop
 μ-loop records shift list₀ count k₀ list k = count - k
 
+loop-holds : tie.Need-loop-holds Inv-loop μ-loop
+loop-holds c = (omega arith, filled-none)
+
 loop-again : tie.Need-loop-again Inv-loop μ-loop
 loop-again c =
     let filled = c .before .before .before .loop .inv .1 in
@@ -22,6 +25,6 @@ loop-again c =
 pub shifted-entries-spec : {M : Type 1} → statement M
 shifted-entries-spec =
     tie.close
-    (tie.spec Inv-loop μ-loop (λ c κs. search needs) (λ c. (omega arith, filled-none)) (λ c κs. omega arith) (λ c κs. search needs)
+    (tie.spec Inv-loop μ-loop (λ c κs. search needs) loop-holds (λ c κs. omega arith) (λ c κs. search needs)
     (λ c. omega arith) (λ c. omega (arith, c .before .before .before .loop .inv .1 .long)) (λ c. omega arith) (λ c. omega arith)
     loop-again (λ c. c .before .loop .inv .1 .long) (λ c. filled-to (omega arith) (c .before .loop .inv .1)))

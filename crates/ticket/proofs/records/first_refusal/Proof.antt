@@ -38,10 +38,13 @@ loop-again-2 c =
     let inv = passed .before .before .before .loop .inv in
     (omega arith, position-next (inv .1) (c .if2 .left), scanned-next _ _ (inv .1) (passed .before .record-number .ensures) (inv .2) (passed .if1 .left))
 
+returns-2 : tie.Need-returns-2 Inv-loop μ-loop
+returns-2 c = sym (refusal-none _ _ _ (λ k l. c .before .loop .inv .2 k (omega arith)))
+
 pub first-refusal-spec : {M : Type 1} → statement M
 first-refusal-spec =
     tie.close
     (tie.spec Inv-loop μ-loop (λ c. omega arith) (λ c. omega arith) (λ c. omega arith)
     (λ c. (omega arith, position-none (c .before .before .before .pre .0 .columns), λ k l. absurd (omega arith))) (λ c κs. omega arith)
     (λ c. omega arith) returns (λ c. omega arith) (λ c. omega arith) add-row (λ c. omega arith) loop-again (λ c. omega arith) loop-again-2
-    (λ c. sym (refusal-none _ _ _ (λ k l. c .before .loop .inv .2 k (omega arith)))))
+    returns-2)
