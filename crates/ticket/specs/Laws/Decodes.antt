@@ -166,10 +166,7 @@ module _ {G : Setting} {t : List ℕ} (passed : Passed G t) where
               (omega (arith, half-small {G = G} (passed .numbers), modulus-above)) (omega (arith, scaled, twice, passed .fitted .claims)) in
               let few : shifted * G .scale + left < 2 ^ 32 =
               omega (arith, scaled, passed .fitted .claims, modulus-below, remainder-below passed i j l m) in
-              ap pos (
-              filled .each (i * G .columns + j) inside
-              ∙ rw (d .1 i j l m, e .1 i j l m, same, carried, mod-eq-of-lt few)
-              )
+              ap pos (filled .each (i * G .columns + j) inside ∙ rw (d .1 i j l m, e .1 i j l m, same, carried, mod-eq-of-lt few))
               ∙ claim-lifted shifted left;
         }
       where

@@ -226,10 +226,8 @@ pub record-at : (G : Setting) (w row column : ℕ) → row < part G w .rows → 
     → (start G w + (row * part G w .columns + column) < records G)
     × Located G (start G w + (row * part G w .columns + column)) w row column
 record-at G w row column l m =
-    let inside : row * part G w .columns + column < partSize (part G w) = digits-lt l m in (
-      omega (arith, ends-within G w),
-      record { in-part = holder-at G inside; place = refl; row-within = l; column-within = m },
-    )
+    let inside : row * part G w .columns + column < partSize (part G w) = digits-lt l m in
+    (omega (arith, ends-within G w), record { in-part = holder-at G inside; place = refl; row-within = l; column-within = m })
 
 pub located-at : (G : Setting) (k : ℕ) → k < records G
     → (w : ℕ) × Held G k w × Located G k w ((k - start G w) / part G w .columns) ((k - start G w) % part G w .columns)
@@ -242,16 +240,9 @@ located-at G k l =
     let some : 0 < P .columns = elim (decLe 1 (P .columns)) [
       | yes le ↦ le
       | no lt ↦ let none : P .columns ≡ 0 = omega arith in absurd (omega (arith, ap (λ n. P .rows * n) none))
-    ] in (
-      w,
-      h,
-      record {
-        in-part = refl;
-        place = omega (arith, div-add-mod' i (P .columns), h .from);
-        row-within = div-lt-iff-lt-mul some .1 inside;
-        column-within = mod-lt i some;
-      },
-    )
+    ] in
+    let place : k ≡ start G w + (i / P .columns * P .columns + i % P .columns) = omega (arith, div-add-mod' i (P .columns), h .from) in
+    (w, h, record { in-part = refl; place = place; row-within = div-lt-iff-lt-mul some .1 inside; column-within = mod-lt i some })
 
 pub located-once : {G : Setting} {k w w' row row' column column' : ℕ}
     → Located G k w row column → Located G k w' row' column' → (w ≡ w') × (row ≡ row') × (column ≡ column')

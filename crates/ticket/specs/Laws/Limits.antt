@@ -122,14 +122,9 @@ half-double {G} numbers =
     omega (arith, pow-suc 2 (G .width - 1), ap (λ n. 2 ^ n) more)
 
 pub fit-products : {G : Setting} → Sizes G → Numbers G → FitProducts G
-fit-products {G} sizes numbers =
-    let bound : G .bound ≤ mostBound = omega arith in
-    let square : G .bound * G .bound ≤ mostBound * mostBound = mul-le-mul bound bound in
-    record {
-      square = square;
-      sums = mul-le-mul (sizes .inner .1) square;
-      lifted = mul-le-mul (half-small numbers) (numbers .scale .1);
-    }
+fit-products sizes numbers =
+    let square = mul-le-mul (numbers .bound .1) (numbers .bound .1) in
+    record { square = square; sums = mul-le-mul (sizes .inner .1) square; lifted = mul-le-mul (half-small numbers) (numbers .scale .1) }
 
 pub lift-double : {G : Setting} → Numbers G → 2 * lift G ≡ 2 ^ G .width * G .scale
 lift-double {G} numbers = omega (arith, ap (λ n. n * G .scale) (half-double numbers))
