@@ -11,8 +11,8 @@
 --   Forms         the form that the code gives the tests of a part
 --   Passing       the tests of a record, made without a branch, and of all records of a part
 --   Parts         the parts read by their forms, one after the other, are the ticket
---   Passes        what a ticket that passes gives
 --   Refusals      when reading refuses, with which number and place (T3)
+--   Passes        what a ticket that passes gives
 --   Lifts         an exact sum, lifted so that it is not negative
 --   Differences   how far the claims are from the exact sums
 --   Decodes       what entries and claims are decoded to
@@ -27,8 +27,8 @@ pub mod Layout
 pub mod Forms
 pub mod Passing
 pub mod Parts
-pub mod Passes
 pub mod Refusals
+pub mod Passes
 pub mod Lifts
 pub mod Differences
 pub mod Decodes

@@ -2,7 +2,7 @@
 // the list go. A shift is added to each value modulo p, so that what a value in range stands for is not negative. What comes of other
 // values is fixed too, and means nothing.
 ghost use mathlib.Core.Path.{_≡_};
-ghost use Prim.Native.Nat.{_+_, _*_, _≤_, _%_, _^_};
+ghost use Prim.Native.Nat.{_+_, _*_, _%_, _^_};
 ghost use Rattle.residue.specs.Rules.{modulus};
 ghost use Rattle.residue.specs.Laws.Modulo.{carriedSum};
 ghost use Rattle.ticket.specs.Laws.Decodes.{narrowed, ShiftedList, NarrowList, LiftedList};

@@ -2,12 +2,12 @@
 ghost use mathlib.Core.Path.{_≡_};
 ghost use Prim.Native.Nat.{_+_, _*_, _^_, _≤_, _<_};
 ghost use lib.ListN.{length};
-ghost use Rattle.ticket.specs.Rules.{mostBound, reading, recordBytes, records, recordNumber, firstRefusal, formed};
+ghost use Rattle.ticket.specs.Rules.{mostBound, reading, recordBytes, records, part, recordNumber, firstRefusal, formed};
 ghost use Rattle.ticket.specs.Laws.Limits.{Sizes, Numbers};
 ghost use Rattle.ticket.specs.Laws.All.{all};
-ghost use Rattle.ticket.specs.Laws.Forms.{entriesForm, formOf, partAnswer, testedAt, Holds, Ranged};
+ghost use Rattle.ticket.specs.Laws.Forms.{entriesForm, partAnswer, testedAt, Holds, Ranged};
 ghost use Rattle.ticket.specs.Laws.Passing.{passing, passingAt, rowPassing};
-ghost use Rattle.ticket.specs.Laws.Parts.{PartReady, ReadReady, partRead};
+ghost use Rattle.ticket.specs.Laws.Parts.{MakesTests, ReadReady, partRead};
 use crate::Answer;
 use crate::PartNumber;
 use crate::Setting;
@@ -15,6 +15,7 @@ use crate::parts::RECORD;
 use crate::parts::part;
 use crate::parts::value_at;
 use crate::parts::word;
+use crate::setting::unless;
 use residue::Residue;
 
 // Rows of at most so many records are not worth the pass without branches.
@@ -73,7 +74,7 @@ fn read_records(setting: Setting, ticket: &[u8]) -> Answer
 
 // The answer of a part. The tests are made without a branch first; one by one, for the first that fails, only where some record fails.
 fn read_part(setting: Setting, ticket: &[u8], which: PartNumber) -> Answer
-    requires { ⌜ PartReady setting (now ticket) (which .0) ⌝ }
+    requires { ⌜ ReadReady setting (now ticket) × (which .0 < 4) ⌝ }
     ensures { λ r. ⌜ r ≡ partRead setting (now (ticket .entry)) (which .0) ⌝ }
 {
     let form = form_of(setting, which);
@@ -86,8 +87,8 @@ fn read_part(setting: Setting, ticket: &[u8], which: PartNumber) -> Answer
 
 // What the records of a part have to be.
 fn form_of(setting: Setting, which: PartNumber) -> Form
-    requires { ⌜ Sizes setting × Numbers setting ⌝ }
-    ensures { λ r. ⌜ r ≡ formOf setting (which .0) ⌝ }
+    requires { ⌜ Sizes setting × Numbers setting × (which .0 < 4) ⌝ }
+    ensures { λ r. ⌜ MakesTests r (part setting (which .0)) ⌝ }
 {
     let part = which.0;
     let rows = setting.rows as u8;
@@ -216,18 +217,12 @@ fn record_number(records: &[u8], form: Form, i: u32, row: u8, column: u8) -> u32
     requires { ⌜ recordBytes * i + recordBytes ≤ length (now records) ⌝ }
     ensures { λ r. ⌜ r ≡ testedAt (now (records .entry)) form i row column ⌝ }
 {
-    if !formed(records, i as usize, form.kind, row, column) {
-        return 5;
-    }
+    let formed = formed(records, i as usize, form.kind, row, column);
     let value = value_at(records, i as usize);
-    if !value.is_least() {
-        return 6;
-    }
+    let least = value.is_least();
     let shifted = value.add(Residue(form.shift)).0;
-    if form.limit <= shifted {
-        return form.outside;
-    }
-    0
+    let value_number = unless(least, 6, unless(shifted < form.limit, form.outside, 0));
+    unless(formed, 5, value_number)
 }
 
 // Whether record i has the kind, a zero byte, the row and the column.

@@ -2,7 +2,8 @@
 // limits they say what the limits come to, so that nothing wraps.
 ghost use mathlib.Core.Path.{_≡_};
 ghost use Prim.Native.Nat.{min};
-ghost use Rattle.ticket.specs.Rules.{settingNumber, sizesWithin, numbersWithin, fits, within, part, partSize, start, ticketLength, halfRange, lift, sumProducts};
+ghost use Rattle.ticket.specs.Rules.{unless, settingNumber, sizesWithin, numbersWithin, fits, within};
+ghost use Rattle.ticket.specs.Rules.{part, partSize, start, ticketLength, halfRange, lift, sumProducts};
 ghost use Rattle.ticket.specs.Laws.Limits.{Sizes, Numbers, Clamped, clamped};
 use crate::parts::RECORD;
 use residue::Residue;
@@ -58,7 +59,7 @@ impl Setting {
 
     const MOST_WIDTH: u32 = 30;
 
-    // the bytes of the longest ticket: as length, of the largest sizes
+    // the bytes of the longest ticket, which is that of the largest sizes
     pub const LONGEST_TICKET: usize = RECORD
         * (Setting::MOST_ROWS * Setting::MOST_INNER
             + Setting::MOST_INNER * Setting::MOST_COLUMNS
@@ -74,10 +75,7 @@ impl Setting {
         if !self.numbers_within() {
             return 2;
         }
-        if !self.fits() {
-            return 3;
-        }
-        0
+        unless(self.fits(), 3, 0)
     }
 
     // How many records a part has.
@@ -210,4 +208,14 @@ fn least(n: u32, most: u32) -> u32
         return most;
     }
     n
+}
+
+// The rest where a test passed, else the number of its refusal.
+pub(crate) fn unless(passed: bool, number: u32, rest: u32) -> u32
+    ensures { λ r. ⌜ r ≡ unless passed number rest ⌝ }
+{
+    if passed {
+        return rest;
+    }
+    number
 }

@@ -7,11 +7,12 @@
 --   mod-add-cancel     a summand on both sides is cancelled
 --   mod-once           a number from p to 2p is reduced by one subtraction
 --   carriedSum p v s   v + s, with 1 carried where v is in the upper half of the numbers up to p, modulo 2^32 and then modulo p + 1
+--   carried-words      it by two sums modulo 2^32
 --   carried-low, carried-high   it for v in the lower half, and in the upper, where the sum passes p
 --   carried-sum        it is the sum modulo p, where that and s are in the lower half; p is odd and has at most 31 bits
 --   pow-pow            a power of a power
 use Prim.Native.Nat.{ℕ, zero, suc, _+_, _-_, _*_, _/_, _%_, _^_, _≤_, _<_}
-use native.Mathlib.Nat.{add-mul-mod-self-left, div-add-mod, div-eq-of-lt, div-eq-of-lt-le, mod-eq-of-lt, mod-eq-sub-mod, mul-comm, pow-zero, pow-suc, zero-mul, suc-mul}
+use native.Mathlib.Nat.{add-mul-mod-self-left, div-add-mod, div-eq-of-lt, div-eq-of-lt-le, mod-eq-of-lt, mod-add-mod, mod-eq-sub-mod, mul-comm, pow-zero, pow-suc, zero-mul, suc-mul}
 use native.Mathlib.Decide.{decLt}
 use native.Mathlib.Omega.{arith}
 use mathlib.Core.Path.{_≡_, sym, ap, _∙_}
@@ -40,6 +41,10 @@ mod-once p x low high = mod-eq-sub-mod low ∙ mod-eq-of-lt (omega arith)
 
 unfoldable pub carriedSum : ℕ → ℕ → ℕ → ℕ
 carriedSum p v s = (v + s + v / ((p + 1) / 2)) % 2 ^ 32 % (p + 1)
+
+pub carried-words : (p v s : ℕ) → ((v + s) % 2 ^ 32 + v / ((p + 1) / 2)) % 2 ^ 32 % (p + 1) ≡ carriedSum p v s
+unfolding carriedSum
+carried-words p v s = ap (λ n. n % (p + 1)) (mod-add-mod (v + s) (2 ^ 32) (v / ((p + 1) / 2)))
 
 module _ (p : ℕ) (odd : p % 2 ≡ 1) (few : p < 2 ^ 31) (v s : ℕ) where
   pub carried-low : v < (p + 1) / 2 → v + s ≤ p → carriedSum p v s ≡ v + s

@@ -39,4 +39,4 @@ scan-zero start n f = (
 )
 
 pub first-past : (n : ℕ) (f : ℕ → Bool) → (first n f ≡ n) ↔ ((k : ℕ) → k < n → f k ≡ true)
-first-past n f = (λ e k l. first-before n k f (omega arith), first-none n f)
+first-past n f = (λ e k l. first-before n f k (omega arith), first-none n f)

@@ -5,10 +5,10 @@
 --   narrowShift, narrowed x, narrowAt b k   2^15; the 16-bit number of a shifted value x; that of record k of b
 --   liftedAt q r h a c    the value of record c of q with h added modulo p, times a, and the value of record c of r, modulo 2^32
 --   ShiftedList b s l l', NarrowList b l l', LiftedList q r h a l l'   the list l' is l, filled with these as far as records and l go
+--   filled-to             a list filled as far as to k, where that is n
 --   narrow-bits           the number of a shifted value has 16 bits
 --   shifted-entry         a value with at least its entry's size added is that entry, shifted
---   Decodable G t w b     b are the bytes of part w, decoded whole
---   decodable             so are those that the code takes from a ticket that passes
+--   decodable             how many bytes the code takes for a part of a ticket that passes, and which values
 --   ShiftedEntries G t a, entries-shifted   a holds the entries of A, each with the bound added
 --   LiftedClaims G t y, claims-lifted       y holds what the claims put for their sums, lifted
 --   entries-A, entries-B  the entries of A and of B as 16-bit numbers
@@ -72,6 +72,9 @@ abbrev pub LiftedList : List ℕ → List ℕ → ℕ → ℕ → List ℕ → L
 LiftedList quotients remainders half scale before list =
     Filled 0 before (claimCount quotients remainders (length before)) (liftedAt quotients remainders half scale) list
 
+pub filled-to : {A : Type 0} {d : A} {before list : List A} {f : ℕ → A} {k n : ℕ} → k ≡ n → Filled d before k f list → Filled d before n f list
+filled-to e filled = rw (← e) filled
+
 pub narrow-bits : (shifted : ℕ) → SFits w16 (narrowed shifted)
 narrow-bits shifted =
     from-parts (narrowed shifted) (shifted % 65_536) (difference-of-naturals (shifted % 65_536) narrowShift) (omega arith)
@@ -97,19 +100,16 @@ module _ (p : ℕ) (odd : p % 2 ≡ 1) (few : p < 2 ^ 31) (s v : ℕ) (most : s 
             ∙ ap (λ z. z +ℤ pos s) (sym is)
       ]
 
-pub record Decodable (G : Setting) (t : List ℕ) (w : ℕ) (b : List ℕ) : Type 0 where
-  pub long : length b ≡ recordBytes * partSize (part G w)
-  pub each : (i j : ℕ) → i < part G w .rows → j < part G w .columns → valueAt b (i * part G w .columns + j) ≡ valueIn G t w i j
-
 module _ {G : Setting} {t : List ℕ} (passed : Passed G t) where
-  pub decodable : (w : ℕ) {b : List ℕ} → b ≡ partBytes (clamped G) t w → Decodable G t w b
-  decodable w {b} b-is =
-      let is : b ≡ partBytes G t w = b-is ∙ ap (λ H. partBytes H t w) (clamped-same (passed .counts .sizes) (passed .numbers)) in
-      record {
-        long = ap length is ∙ part-bytes-long G t w (passed .long);
-        each = λ i j l m.
-            ap (λ x. valueAt x (i * part G w .columns + j)) is ∙ value-of-part G t w (digits-lt l m) ∙ sym (value-in G t w i j);
-      }
+  pub decodable : (w : ℕ) {b : List ℕ} → b ≡ partBytes (clamped G) t w → (length b ≡ recordBytes * partSize (part G w))
+      × ((i j : ℕ) → i < part G w .rows → j < part G w .columns → valueAt b (i * part G w .columns + j) ≡ valueIn G t w i j)
+  decodable w b-is =
+      rw (b-is, clamped-same (passed .counts .sizes) (passed .numbers))
+      (part-bytes-long G t w (passed .long), λ i j l m. value-of-part G t w (digits-lt l m) ∙ sym (value-in G t w i j))
+
+-- the size of an integer that is shifted
+shifted-most : {x T : ℕ} (s : ℕ) (z : ℤ) → pos x ≡ z +ℤ pos s → natAbs z ≤ T → x ≤ s + T
+shifted-most {x} {T} s z e size = omega (arith, ap positive e, ap negative e, parts-sum z (pos s), parts-within z T size)
 
 pub record ShiftedEntries (G : Setting) (t a : List ℕ) : Type 0 where
   pub long : G .rows * G .inner ≤ length a
@@ -131,8 +131,8 @@ module _ {G : Setting} {t : List ℕ} (passed : Passed G t) where
     entry-shifted i k l m =
         let d = decodable passed ofA b-is in
         let value = valueIn G t ofA i k in
-        let inside : i * G .inner + k < decodedCount b (length before) = omega (arith, d .long, digits-lt l m) in
-        ap pos (filled .each (i * G .inner + k) inside ∙ rw (d .each i k l m))
+        let inside : i * G .inner + k < decodedCount b (length before) = omega (arith, d .0, digits-lt l m) in
+        ap pos (filled .each (i * G .inner + k) inside ∙ rw (d .1 i k l m))
         ∙ shifted-entry modulus modulus-odd modulus-below (G .bound) value (bound-small .1) (valid passed ofA i k l m .below) (size-entryA passed i k l m)
 
     pub entries-shifted : ShiftedEntries G t a
@@ -141,14 +141,7 @@ module _ {G : Setting} {t : List ℕ} (passed : Passed G t) where
           long = omega (arith, filled .long);
           entry = entry-shifted;
           small = by-rows (λ k. getD a k 0 < 2 ^ 16) (G .inner) (omega (arith, passed .counts .sizes .inner)) (λ i k l m.
-              omega (
-                arith,
-                ap positive (entry-shifted i k l m),
-                ap negative (entry-shifted i k l m),
-                parts-sum (entryA G t i k) (pos (G .bound)),
-                parts-within (entryA G t i k) (G .bound) (size-entryA passed i k l m),
-                passed .numbers .bound,
-              ));
+              omega (arith, shifted-most (G .bound) (entryA G t i k) (entry-shifted i k l m) (size-entryA passed i k l m), passed .numbers .bound));
         }
 
   module _ {y before q r : List ℕ} {half : ℕ} (q-is : q ≡ partBytes (clamped G) t ofQuotients) (r-is : r ≡ partBytes (clamped G) t ofRemainders)
@@ -165,7 +158,7 @@ module _ {G : Setting} {t : List ℕ} (passed : Passed G t) where
               let value = valueIn G t ofQuotients i j in
               let shifted = shiftedQuotient (G .width) value in
               let left = valueIn G t ofRemainders i j in
-              let inside : i * G .columns + j < claimCount q r (length before) = omega (arith, d .long, e .long, digits-lt l m) in
+              let inside : i * G .columns + j < claimCount q r (length before) = omega (arith, d .0, e .0, digits-lt l m) in
               let same : half ≡ halfRange G = half-is ∙ ap halfRange (clamped-same (passed .counts .sizes) (passed .numbers)) in
               let scaled = mul-le-mul-right (G .scale) (shifted-below passed i j l m) in
               let twice = mul-le-mul-left shifted (passed .numbers .scale .0) in
@@ -173,10 +166,7 @@ module _ {G : Setting} {t : List ℕ} (passed : Passed G t) where
               (omega (arith, half-small {G = G} (passed .numbers), modulus-above)) (omega (arith, scaled, twice, passed .fitted .claims)) in
               let few : shifted * G .scale + left < 2 ^ 32 =
               omega (arith, scaled, passed .fitted .claims, modulus-below, remainder-below passed i j l m) in
-              ap pos (
-              filled .each (i * G .columns + j) inside
-              ∙ rw (d .each i j l m, e .each i j l m, same, carried, mod-eq-of-lt few)
-              )
+              ap pos (filled .each (i * G .columns + j) inside ∙ rw (d .1 i j l m, e .1 i j l m, same, carried, mod-eq-of-lt few))
               ∙ claim-lifted shifted left;
         }
       where
@@ -201,9 +191,7 @@ module _ {G : Setting} {t : List ℕ} (passed : Passed G t) where
       let shifted = shifted-entry modulus modulus-odd modulus-below narrowShift v (bound-small .0) least (omega (arith, passed .numbers .bound)) in
       let x = carriedSum modulus v narrowShift in
       let z = signedEntry modulus v in
-      let parts = parts-within z (G .bound) size in
-      let few : x < 65_536 =
-      omega (arith, ap positive shifted, ap negative shifted, parts-sum z (pos narrowShift), passed .numbers .bound) in
+      let few : x < 65_536 = omega (arith, shifted-most narrowShift z shifted size, passed .numbers .bound) in
       ap (λ n. pos n -ℤ pos narrowShift) (mod-eq-of-lt few)
       ∙ equal-of-parts (pos x -ℤ pos narrowShift) z
       (omega (arith, parts-difference (pos x) (pos narrowShift), ap positive shifted, ap negative shifted, parts-sum z (pos narrowShift)))
@@ -215,8 +203,8 @@ module _ {G : Setting} {t : List ℕ} (passed : Passed G t) where
         → getD a (i * part G w .columns + j) (pos 0) ≡ signedEntry modulus (valueIn G t w i j)
     numbers w b-is room i j l m size =
         let d = decodable passed w b-is in
-        filled .each (i * part G w .columns + j) (omega (arith, d .long, digits-lt l m))
-        ∙ ap (λ v. narrowed (carriedSum modulus v narrowShift)) (d .each i j l m)
+        filled .each (i * part G w .columns + j) (omega (arith, d .0, digits-lt l m))
+        ∙ ap (λ v. narrowed (carriedSum modulus v narrowShift)) (d .1 i j l m)
         ∙ narrow-entry (valueIn G t w i j) (valid passed w i j l m .below) size
 
     pub entries-A : b ≡ partBytes (clamped G) t ofA → G .rows * G .inner ≤ length before
@@ -234,4 +222,4 @@ module _ {G : Setting} {t : List ℕ} (passed : Passed G t) where
   unfolding parts part
   values-B b-is =
       let d = decodable passed ofB b-is in
-      (d .long, λ k j l m. d .each k j l m ∙ sym (residue-entryB passed k j l m))
+      (d .0, λ k j l m. d .1 k j l m ∙ sym (residue-entryB passed k j l m))

@@ -30,7 +30,7 @@ use Rattle.algebra.specs.Laws.MatrixProducts.{size-matrixProduct}
 use Rattle.ticket.specs.declared.setting.Setting.{Setting}
 use Rattle.ticket.specs.Rules.{reach, halfRange, isEntry, shiftedQuotient, parts, part, ofA, ofB, ofQuotients, ofRemainders, valueIn, entryA, entryB, quotient, remainder, claim, exactSum, due, Untrue, FalseIn}
 use Rattle.ticket.specs.Laws.Limits.{half-double}
-use Rattle.ticket.specs.Laws.Passes.{Passed, Valid, valid}
+use Rattle.ticket.specs.Laws.Passes.{Passed, valid}
 
 -- the size of the difference of two numbers that are at most b apart
 size-between : (z : ℤ) (u v b : ℕ) → positive z + v ≡ u + negative z → u ≤ v + b → v ≤ u + b → natAbs z ≤ b
@@ -51,36 +51,18 @@ unfolding exactSum
 size-sum-of G A B i j a b = size-matrixProduct (G .inner) A B i j a b
 
 module _ {G : Setting} {t : List ℕ} (passed : Passed G t) where
-  -- the values of a part by the sizes of the setting
-  valid-A : (i k : ℕ) → i < G .rows → k < G .inner → Valid (part G ofA) (valueIn G t ofA i k)
-  unfolding parts part
-  valid-A i k l m = valid passed ofA i k l m
-
-  valid-B : (k j : ℕ) → k < G .inner → j < G .columns → Valid (part G ofB) (valueIn G t ofB k j)
-  unfolding parts part
-  valid-B k j l m = valid passed ofB k j l m
-
-  module _ (i j : ℕ) (l : i < G .rows) (m : j < G .columns) where
-    valid-quotient : Valid (part G ofQuotients) (valueIn G t ofQuotients i j)
-    unfolding parts part
-    valid-quotient = valid passed ofQuotients i j l m
-
-    valid-remainder : Valid (part G ofRemainders) (valueIn G t ofRemainders i j)
-    unfolding parts part
-    valid-remainder = valid passed ofRemainders i j l m
-
   pub size-entryA : (i k : ℕ) → i < G .rows → k < G .inner → natAbs (entryA G t i k) ≤ G .bound
   unfolding entryA parts part isEntry
-  size-entryA i k l m = leb-true _ _ (valid-A i k l m .in-range)
+  size-entryA i k l m = leb-true _ _ (valid passed ofA i k l m .in-range)
 
   pub size-entryB : (k j : ℕ) → k < G .inner → j < G .columns → natAbs (entryB G t k j) ≤ G .bound
   unfolding entryB parts part isEntry
-  size-entryB k j l m = leb-true _ _ (valid-B k j l m .in-range)
+  size-entryB k j l m = leb-true _ _ (valid passed ofB k j l m .in-range)
 
   module _ (i j : ℕ) (l : i < G .rows) (m : j < G .columns) where
     pub shifted-below : shiftedQuotient (G .width) (valueIn G t ofQuotients i j) < 2 ^ G .width
     unfolding parts part
-    shifted-below = ltb-true _ _ (valid-quotient i j l m .in-range)
+    shifted-below = ltb-true _ _ (valid passed ofQuotients i j l m .in-range)
 
     pub size-quotient : natAbs (quotient G t i j) ≤ halfRange G
     unfolding quotient
@@ -92,7 +74,7 @@ module _ {G : Setting} {t : List ℕ} (passed : Passed G t) where
 
     pub remainder-below : valueIn G t ofRemainders i j < G .scale
     unfolding parts part
-    remainder-below = ltb-true _ _ (valid-remainder i j l m .in-range)
+    remainder-below = ltb-true _ _ (valid passed ofRemainders i j l m .in-range)
 
     pub small-remainder : (r : ℕ) × (r < G .scale) × (remainder G t i j ≡ pos r)
     unfolding remainder
@@ -110,33 +92,27 @@ module _ {G : Setting} {t : List ℕ} (passed : Passed G t) where
         let claimed : natAbs (claim G t i j) ≤ natAbs (pos (G .scale) *ℤ quotient G t i j) + valueIn G t ofRemainders i j =
         size-sum (pos (G .scale) *ℤ quotient G t i j) (remainder G t i j) in
         let room : 2 * halfRange G * G .scale < modulus = rw (half-double {G = G} (passed .numbers)) (passed .fitted .claims) in
-        omega (
-          arith,
-          size-difference (claim G t i j) (due G t i j),
-          remainder-below,
-          size-due,
-          passed .fitted .sums,
-        )
+        omega (arith, size-difference (claim G t i j) (due G t i j), remainder-below, size-due, passed .fitted .sums)
 
     pub residue-quotient : leastResidue modulus (quotient G t i j) ≡ valueIn G t ofQuotients i j
-    unfolding quotient shiftedQuotient
+    unfolding quotient shiftedQuotient parts part
     residue-quotient =
         let value = valueIn G t ofQuotients i j in
         residue-shift modulus modulus-positive (quotient G t i j) (pos value) ((value + halfRange G) / modulus) 0
         (omega (arith, parts-difference (pos ((value + halfRange G) % modulus)) (pos (halfRange G)), div-add-mod (value + halfRange G) modulus))
-        ∙ residue-of-residue modulus modulus-positive value (valid-quotient i j l m .below)
+        ∙ residue-of-residue modulus modulus-positive value (valid passed ofQuotients i j l m .below)
 
     pub residue-remainder : leastResidue modulus (remainder G t i j) ≡ valueIn G t ofRemainders i j
-    unfolding remainder
-    residue-remainder = residue-of-residue modulus modulus-positive _ (valid-remainder i j l m .below)
+    unfolding remainder parts part
+    residue-remainder = residue-of-residue modulus modulus-positive _ (valid passed ofRemainders i j l m .below)
 
   pub residue-entryA : (i k : ℕ) → i < G .rows → k < G .inner → leastResidue modulus (entryA G t i k) ≡ valueIn G t ofA i k
-  unfolding entryA
-  residue-entryA i k l m = residue-of-entry modulus modulus-positive _ (valid-A i k l m .below)
+  unfolding entryA parts part
+  residue-entryA i k l m = residue-of-entry modulus modulus-positive _ (valid passed ofA i k l m .below)
 
   pub residue-entryB : (k j : ℕ) → k < G .inner → j < G .columns → leastResidue modulus (entryB G t k j) ≡ valueIn G t ofB k j
-  unfolding entryB
-  residue-entryB k j l m = residue-of-entry modulus modulus-positive _ (valid-B k j l m .below)
+  unfolding entryB parts part
+  residue-entryB k j l m = residue-of-entry modulus modulus-positive _ (valid passed ofB k j l m .below)
 
 pub claim-decided : (G : Setting) (t : List ℕ) (i j : ℕ) → (claim G t i j ≡ due G t i j) ⊎ Untrue G t i j
 claim-decided G t i j = elim (ℤ-discrete (claim G t i j) (due G t i j)) [ yes e ↦ inl e | no d ↦ inr d ]

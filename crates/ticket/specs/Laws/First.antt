@@ -1,5 +1,6 @@
 -- The first place at which a test fails, over the rule `first`.
 --
+--   joined         what holds at the first m places and at the n after them holds at all
 --   true-or-false  a test holds or fails
 --   first-none     where the test holds everywhere below n, there is no such place
 --   first-is       the place is i, where the test fails there and holds before it
@@ -9,8 +10,8 @@
 --   first-at       at it the test fails, where it is below n
 --   FirstFailure n f i, holds-or-first   either the test holds everywhere below n, or i is that place
 use Rattle.ticket.specs.Rules.{first}
-use Prim.Native.Nat.{ℕ, zero, suc, _≤_, _<_}
-use native.Mathlib.Decide.{ℕ-discrete}
+use Prim.Native.Nat.{ℕ, zero, suc, _+_, _-_, _≤_, _<_}
+use native.Mathlib.Decide.{ℕ-discrete, decLe}
 use native.Mathlib.Omega.{arith}
 use mathlib.Core.Logic.{_⊎_, inl, inr, ⊎-elim}
 use mathlib.Core.Path.{_≡_, refl}
@@ -28,35 +29,16 @@ first-is (suc n) zero f l h e = rw e
 first-is (suc n) (suc i) f l h e =
     rw (h 0 (omega arith), first-is n i (λ k. f (suc k)) (omega arith) (λ k l. h (suc k) (omega arith)) e)
 
+pub joined : (P : ℕ → Type 0) {m n : ℕ} → ((k : ℕ) → k < m → P k) → ((k : ℕ) → k < n → P (m + k)) → (k : ℕ) → k < m + n → P k
+joined P {m} early late k l =
+    elim (decLe m k) [
+      | yes past ↦ let same : m + (k - m) ≡ k = omega arith in rw same at (late (k - m) (omega arith))
+      | no before ↦ early k (omega arith)
+    ]
+
 pub true-or-false : (b : Bool) → (b ≡ true) ⊎ (b ≡ false)
 true-or-false true = inl refl
 true-or-false false = inr refl
-
-pub first-within : (n : ℕ) (f : ℕ → Bool) → first n f ≤ n
-unfolding first
-first-within zero f = omega arith
-first-within (suc n) f =
-    ⊎-elim (λ e. rw e (omega (arith, first-within n (λ k. f (suc k))))) (λ e. rw e (omega arith)) (true-or-false (f 0))
-
-pub first-before : (n k : ℕ) (f : ℕ → Bool) → k < first n f → f k ≡ true
-unfolding first
-first-before zero k f l = absurd (omega arith)
-first-before (suc n) zero f l =
-    ⊎-elim (λ e. e) (λ e. let l : 0 < 0 = rw e at l in absurd (omega arith)) (true-or-false (f 0))
-first-before (suc n) (suc k) f l =
-    ⊎-elim
-    (λ e. let l : suc k < suc (first n (λ k. f (suc k))) = rw e at l in first-before n k (λ k. f (suc k)) (omega arith))
-    (λ e. let l : suc k < 0 = rw e at l in absurd (omega arith))
-    (true-or-false (f 0))
-
-pub first-at : (n : ℕ) (f : ℕ → Bool) → first n f < n → f (first n f) ≡ false
-unfolding first
-first-at zero f l = absurd (omega arith)
-first-at (suc n) f l =
-    ⊎-elim
-    (λ e. let l : suc (first n (λ k. f (suc k))) < suc n = rw e at l in rw e (first-at n (λ k. f (suc k)) (omega arith)))
-    (λ e. rw e e)
-    (true-or-false (f 0))
 
 pub record FirstFailure (n : ℕ) (f : ℕ → Bool) (i : ℕ) : Type 0 where
   pub within : i < n
@@ -64,13 +46,33 @@ pub record FirstFailure (n : ℕ) (f : ℕ → Bool) (i : ℕ) : Type 0 where
   pub fails : f i ≡ false
 
 pub holds-or-first : (n : ℕ) (f : ℕ → Bool) → ((k : ℕ) → k < n → f k ≡ true) ⊎ ((i : ℕ) × FirstFailure n f i)
-holds-or-first n f =
-    elim (ℕ-discrete (first n f) n) [
-      | yes e ↦ inl (λ k l. first-before n k f (omega arith))
-      | no d ↦
-          let l : first n f < n = omega (arith, first-within n f) in
-          inr (first n f, record { within = l; before = λ k. first-before n k f; fails = first-at n f l })
-    ]
+holds-or-first zero f = inl (λ k l. absurd (omega arith))
+holds-or-first (suc n) f =
+    ⊎-elim
+    (λ h. ⊎-elim
+    (λ e. inl (λ k l. elim (ℕ-discrete k n) [ yes d ↦ rw d e | no d ↦ h k (omega arith) ]))
+    (λ e. inr (n, record { within = omega arith; before = h; fails = e }))
+    (true-or-false (f n)))
+    (λ o. inr (o .0, record { within = omega (arith, o .1 .within); before = o .1 .before; fails = o .1 .fails }))
+    (holds-or-first n f)
+
+module _ (n : ℕ) (f : ℕ → Bool) where
+  -- the first place is n, and the test holds below it, or it is one at which the test fails first
+  first-cases : ((first n f ≡ n) × ((k : ℕ) → k < n → f k ≡ true)) ⊎ FirstFailure n f (first n f)
+  first-cases =
+      ⊎-elim
+      (λ h. inl (first-none n f h, h))
+      (λ o. inr (rw (first-is n (o .0) f (o .1 .within) (o .1 .before) (o .1 .fails)) (o .1)))
+      (holds-or-first n f)
+
+  pub first-within : first n f ≤ n
+  first-within = ⊎-elim (λ h. omega (arith, h .0)) (λ o. omega (arith, o .within)) first-cases
+
+  pub first-before : (k : ℕ) → k < first n f → f k ≡ true
+  first-before k l = ⊎-elim (λ h. h .1 k (omega (arith, h .0))) (λ o. o .before k l) first-cases
+
+  pub first-at : first n f < n → f (first n f) ≡ false
+  first-at l = ⊎-elim (λ h. absurd (omega (arith, h .0))) (λ o. o .fails) first-cases
 
 pub first-cong : (n : ℕ) (f g : ℕ → Bool) → ((k : ℕ) → k < n → f k ≡ g k) → first n f ≡ first n g
 unfolding first

@@ -1,8 +1,7 @@
 -- The form that the code gives the tests of a part, and that they are the rule's.
 --
 --   entriesForm κ m n T  the form of m by n entries from -T to T, of kind κ
---   formsOf G, lastForm G, formOf G w   the forms of the parts before the last, that of the last, and that of part w
---   form-last            from the last part on, it is the last
+--   quotientsForm G, remaindersForm G   the forms of the quotients and of the remainders
 --   testedAt b F i r c   the number of record i of b by the form F, which stands in row r, column c
 --   tested b F i         the same, the row and the column from i
 --   partAnswer F a b     the answer of the part that b begins with, of which the first record has the number a
@@ -11,35 +10,32 @@
 --   recordSlice b i      the bytes of record i of b, as a slice
 --   slice-long, first-word, last-word   how many they are, and the words of its first four bytes and of its last
 --   header-formed        the form of a record by its first four bytes as one word
---   tested-misformed, tested-large, tested-outside, tested-passed   the number, as the tests come out in order
---   Scanned b F i r c    the records before i pass, and i is in row r, column c
---   scanned-none         before the first record
---   scanned-refused      record i is refused: the answer of the part
---   scanned-next, scanned-row   record i passes too: the next one is in the same row, or at the beginning of the next
+--   tested-is            the number, by the tests as the code makes them
+--   scanned-refused      the records before i pass, and i is refused: the answer of the part
+--   scanned-next         the records before i pass, and i does too
 --   FormedBytes b i κ r c, formed-exactly   the form of a record, byte by byte
 --   value-is             the value of a record, by its bytes
 use Prim.Native.Nat.{ℕ, _+_, _-_, _*_, _/_, _%_, _^_, _≤_, _<_}
 use native.Mathlib.Decide.{ℕ-discrete}
 use native.Mathlib.Omega.{arith}
-use mathlib.Core.Path.{_≡_, refl, sym, ap, _∙_}
+use mathlib.Core.Path.{_≡_, refl, sym, _∙_}
 use mathlib.Core.Logic.{_↔_}
-use mathlib.Core.Bool.{true, false}
+use mathlib.Core.Bool.{Bool, true}
 use mathlib.Core.List.{List, [], _∷_}
-use borrow.Author.Tests.{le-ltb, lt-ltb, eq-eqb, eqb-true}
-use lib.Dec.{ltb, eqb}
+use borrow.Author.Tests.{eq-eqb, eqb-true}
+use lib.Dec.{ltb, eqb, lit<}
 use lib.IntN.{pos, _+ℤ_}
-use lib.ListN.{length, getD, take, drop, List·getD-eq-default}
+use lib.ListN.{length, getD, take, drop}
 use Rattle.residue.specs.Rules.{modulus, leastResidue}
 use Rattle.residue.specs.Laws.Modulus.{modulus-positive}
 use Rattle.residue.specs.Laws.Residues.{residue-of-natural}
 use Rattle.algebra.specs.Rules.{word}
 use Rattle.algebra.specs.Laws.Bytes.{word-eqb}
 use Rattle.algebra.specs.Laws.Fills.{part-of, part-long}
-use Rattle.algebra.specs.Laws.Positions.{Position, position-none, row-of, column-of, position-next, position-row}
-use Rattle.ticket.specs.Rules.{Test, test, firstFailed, recordBytes, byteAt, formed, valueAt, halfRange, refusal, firstRefusal}
+use Rattle.algebra.specs.Laws.Positions.{Position, row-of, column-of}
+use Rattle.ticket.specs.Rules.{unless, Test, test, firstFailed, recordBytes, byteAt, formed, valueAt, halfRange, refusal, firstRefusal}
 use Rattle.ticket.specs.Laws.Limits.{both}
 use Rattle.ticket.specs.Laws.Scans.{refusal-is}
-use Rattle.ticket.specs.Laws.Tests.{Failed, none, one, here, later, holding-number, failed-number}
 use Rattle.ticket.specs.declared.Answer.{Answer}
 use Rattle.ticket.specs.declared.setting.Setting.{Setting}
 use Rattle.ticket.specs.declared.records.Form.{Form}
@@ -48,23 +44,12 @@ abbrev pub entriesForm : ℕ → ℕ → ℕ → ℕ → Form
 entriesForm kind rows columns bound =
     record { kind = kind; rows = rows; columns = columns; shift = bound; limit = 2 * bound + 1; outside = 7 }
 
-unfoldable pub formsOf : Setting → List Form
-formsOf G =
-    entriesForm 1 (G .rows) (G .inner) (G .bound)
-    ∷ entriesForm 2 (G .inner) (G .columns) (G .bound)
-    ∷ record { kind = 3; rows = G .rows; columns = G .columns; shift = halfRange G; limit = 2 * halfRange G; outside = 8 }
-    ∷ []
+abbrev pub quotientsForm : Setting → Form
+quotientsForm G =
+    record { kind = 3; rows = G .rows; columns = G .columns; shift = halfRange G; limit = 2 * halfRange G; outside = 8 }
 
--- of the last part, and past it
-abbrev pub lastForm : Setting → Form
-lastForm G = record { kind = 4; rows = G .rows; columns = G .columns; shift = 0; limit = G .scale; outside = 9 }
-
-unfoldable pub formOf : Setting → ℕ → Form
-formOf G w = getD (formsOf G) w (lastForm G)
-
-pub form-last : (G : Setting) {w : ℕ} → 3 ≤ w → formOf G w ≡ lastForm G
-unfolding formsOf formOf
-form-last G past = List·getD-eq-default (formsOf G) (lastForm G) past
+abbrev pub remaindersForm : Setting → Form
+remaindersForm G = record { kind = 4; rows = G .rows; columns = G .columns; shift = 0; limit = G .scale; outside = 9 }
 
 -- the tests of record i, in order
 abbrev testsAt : List ℕ → Form → ℕ → ℕ → ℕ → List Test
@@ -103,17 +88,13 @@ module _ (b : List ℕ) (i : ℕ) where
   byte-of : (k : ℕ) → k < recordBytes → getD (recordSlice b i) k 0 ≡ byteAt b i k
   byte-of k l = part-of b (recordBytes * i) recordBytes k 0 l
 
-  word-of : (j k l m : ℕ) → j < recordBytes → k < recordBytes → l < recordBytes → m < recordBytes → let r = recordSlice b i in
-      word (getD r j 0) (getD r k 0) (getD r l 0) (getD r m 0) ≡ word (byteAt b i j) (byteAt b i k) (byteAt b i l) (byteAt b i m)
-  word-of j k l m hj hk hl hm = omega (arith, byte-of j hj, byte-of k hk, byte-of l hl, byte-of m hm)
-
   pub first-word : let r = recordSlice b i in
       word (getD r 0 0) (getD r 1 0) (getD r 2 0) (getD r 3 0) ≡ word (byteAt b i 0) (byteAt b i 1) (byteAt b i 2) (byteAt b i 3)
-  first-word = word-of 0 1 2 3 (omega arith) (omega arith) (omega arith) (omega arith)
+  first-word = rw (byte-of 0 (lit< tt), byte-of 1 (lit< tt), byte-of 2 (lit< tt), byte-of 3 (lit< tt))
 
   pub last-word : valueAt (recordSlice b i) 0 ≡ valueAt b i
   unfolding valueAt
-  last-word = word-of 4 5 6 7 (omega arith) (omega arith) (omega arith) (omega arith)
+  last-word = rw (byte-of 4 (lit< tt), byte-of 5 (lit< tt), byte-of 6 (lit< tt), byte-of 7 (lit< tt))
 
 pub header-formed : (bytes : List ℕ) (i : ℕ) {kind row column header expected : ℕ}
     → header ≡ word (byteAt bytes i 0) (byteAt bytes i 1) (byteAt bytes i 2) (byteAt bytes i 3)
@@ -123,64 +104,24 @@ pub header-formed : (bytes : List ℕ) (i : ℕ) {kind row column header expecte
 unfolding formed
 header-formed bytes i h e small k r c = rw (h, e) (word-eqb (small _) (small _) (small _) (small _) k (omega arith) r c)
 
-module _ (bytes : List ℕ) (F : Form) (i row column : ℕ) where
-  failed : {c : ℕ} → Failed (testsAt bytes F i row column) c → c ≡ testedAt bytes F i row column
-  unfolding testedAt
-  failed f = sym (failed-number f)
+pub tested-is : (bytes : List ℕ) (F : Form) (i row column : ℕ) {form least : Bool} {value shifted : ℕ}
+    → form ≡ formed bytes i (F .kind) row column → value ≡ valueAt bytes i → least ≡ ltb value modulus
+    → shifted ≡ leastResidue modulus (pos value +ℤ pos (F .shift))
+    → unless form 5 (unless least 6 (unless (ltb shifted (F .limit)) (F .outside) 0)) ≡ testedAt bytes F i row column
+unfolding testedAt firstFailed
+tested-is bytes F i row column form value least shifted =
+    rw (form, least, shifted, value, residue-of-natural modulus modulus-positive (valueAt bytes i + F .shift))
 
-  pub tested-misformed : formed bytes i (F .kind) row column ≡ false → 5 ≡ testedAt bytes F i row column
-  tested-misformed e = failed (here e)
+module _ (bytes : List ℕ) (F : Form) {i row column number : ℕ} (at : Position (F .columns) i row column)
+    (number-is : number ≡ testedAt bytes F i row column) (before : (k : ℕ) → k < i → tested bytes F k ≡ 0) where
+  number-at : number ≡ tested bytes F i
+  number-at = number-is ∙ sym (rw (row-of at, column-of at))
 
-  module _ (form : formed bytes i (F .kind) row column ≡ true) {value : ℕ} (value-is : value ≡ valueAt bytes i) where
-    pub tested-large : ltb value modulus ≡ false → 6 ≡ testedAt bytes F i row column
-    tested-large e = failed (later form (here (rw (← value-is) e)))
+  pub scanned-refused : (from count : ℕ) → i < count → (number ≡ 0 → ⊥) → refusal number (from + i) ≡ firstRefusal from count (tested bytes F)
+  scanned-refused from count l d = rw number-at (sym (refusal-is from count i (tested bytes F) l before (λ z. d (number-at ∙ z))))
 
-    module _ (least : ltb value modulus ≡ true) {shifted : ℕ}
-        (shifted-is : shifted ≡ leastResidue modulus (pos value +ℤ pos (F .shift))) where
-      small : ltb (valueAt bytes i) modulus ≡ true
-      small = rw (← value-is) least
-
-      shifted-by : shifted ≡ (valueAt bytes i + F .shift) % modulus
-      shifted-by = shifted-is ∙ residue-of-natural modulus modulus-positive (value + F .shift) ∙ rw value-is
-
-      pub tested-outside : F .limit ≤ shifted → F .outside ≡ testedAt bytes F i row column
-      tested-outside h = failed (later form (later small (here (rw (← shifted-by) (le-ltb shifted (F .limit) h)))))
-
-      pub tested-passed : shifted < F .limit → 0 ≡ testedAt bytes F i row column
-      unfolding testedAt
-      tested-passed h = sym (holding-number (one form (one small (one (rw (← shifted-by) (lt-ltb shifted (F .limit) h)) none))))
-
-pub record Scanned (bytes : List ℕ) (F : Form) (i row column : ℕ) : Type 0 where
-  pub at : Position (F .columns) i row column
-  pub before : (k : ℕ) → k < i → tested bytes F k ≡ 0
-
-module _ (bytes : List ℕ) (F : Form) where
-  pub scanned-none : 1 ≤ F .columns → Scanned bytes F 0 0 0
-  scanned-none h = record { at = position-none h; before = λ k l. omega arith }
-
-  module _ {i row column : ℕ} (s : Scanned bytes F i row column) where
-    scanned-number : testedAt bytes F i row column ≡ tested bytes F i
-    scanned-number = sym (rw (row-of (s .at), column-of (s .at)))
-
-    pub scanned-refused : (from count : ℕ) {number : ℕ} → i < count → number ≡ testedAt bytes F i row column → (number ≡ 0 → ⊥)
-        → refusal number (from + i) ≡ firstRefusal from count (tested bytes F)
-    scanned-refused from count l e d =
-        ap (λ n. refusal n (from + i)) (e ∙ scanned-number)
-        ∙ sym (refusal-is from count i (tested bytes F) l (s .before) (λ z. d (e ∙ scanned-number ∙ z)))
-
-    module _ {number : ℕ} (number-is : number ≡ testedAt bytes F i row column) (passed : number ≡ 0) where
-      before-next : (k : ℕ) → k < i + 1 → tested bytes F k ≡ 0
-      before-next k l =
-          elim (ℕ-discrete k i) [
-            | yes e ↦ ap (tested bytes F) e ∙ sym scanned-number ∙ sym number-is ∙ passed
-            | no d ↦ s .before k (omega arith)
-          ]
-
-      pub scanned-next : (column + 1 ≡ F .columns → ⊥) → Scanned bytes F (i + 1) row (column + 1)
-      scanned-next d = record { at = position-next (s .at) d; before = before-next }
-
-      pub scanned-row : column + 1 ≡ F .columns → Scanned bytes F (i + 1) (row + 1) 0
-      scanned-row e = record { at = position-row (s .at) e; before = before-next }
+  pub scanned-next : number ≡ 0 → (k : ℕ) → k < i + 1 → tested bytes F k ≡ 0
+  scanned-next z k l = elim (ℕ-discrete k i) [ yes e ↦ rw (e, ← number-at) z | no d ↦ before k (omega arith) ]
 
 pub record FormedBytes (bytes : List ℕ) (i kind row column : ℕ) : Type 0 where
   pub kind-byte : byteAt bytes i 0 ≡ kind
@@ -194,18 +135,8 @@ formed-exactly bytes i kind row column = (
   λ e. let h = both _ _ e in
       let k = both _ _ (h .0) in
       let l = both _ _ (k .0) in
-      record {
-        kind-byte = eqb-true _ _ (l .0);
-        zero-byte = eqb-true _ _ (l .1);
-        row-byte = eqb-true _ _ (k .1);
-        column-byte = eqb-true _ _ (h .1);
-      },
-  λ h. rw (
-    eq-eqb _ _ (h .kind-byte),
-    eq-eqb _ _ (h .zero-byte),
-    eq-eqb _ _ (h .row-byte),
-    eq-eqb _ _ (h .column-byte),
-  ),
+      record { kind-byte = eqb-true _ _ (l .0); zero-byte = eqb-true _ _ (l .1); row-byte = eqb-true _ _ (k .1); column-byte = eqb-true _ _ (h .1) },
+  λ h. rw (eq-eqb _ _ (h .kind-byte), eq-eqb _ _ (h .zero-byte), eq-eqb _ _ (h .row-byte), eq-eqb _ _ (h .column-byte)),
 )
 
 pub value-is : (bytes : List ℕ) (i : ℕ) → valueAt bytes i ≡ word (byteAt bytes i 4) (byteAt bytes i 5) (byteAt bytes i 6) (byteAt bytes i 7)

@@ -1,9 +1,7 @@
 -- The layout of a ticket: record numbers and their part, row and column (T4). Everything is over the list of parts; a part more or
--- less changes no line here but those of `PartsAre` and of the three laws after it.
+-- less changes no line here but those that name the parts.
 --
---   Each Q l, part-all    Q holds of each part of l; then it holds of part w
 --   start-none, start-next, ends-within   where the parts start: the first at 0, each other one where the one before it ends
---   records-end           past the last part there are no records
 --   holder-at, Held G k w, held   the part that holds a record
 --   PartsAre G, parts-are the sizes of the parts by name, and where each starts
 --   size-claims           the size of a part of claims
@@ -24,6 +22,7 @@
 --   PartIs G w κ r c      part w has kind κ, r rows and c columns
 --   part-A, part-B, part-quotients, part-remainders   the parts by name
 --   range-A, range-B, range-quotients, range-remainders   which values are in range
+--   each-part             what holds of each of the four parts holds of every part
 --   every-part            what holds of each row and column of each of them holds of those of every part
 use Prim.Native.Nat.{ℕ, zero, suc, _+_, _-_, _*_, _/_, _%_, _^_, _≤_, _<_, min}
 use native.Mathlib.Nat.{add-sub-cancel-left, min-eq-left, min-eq-right, mod-lt, div-add-mod', div-lt-iff-lt-mul}
@@ -32,7 +31,6 @@ use native.Mathlib.Numerals.{add-one}
 use native.Mathlib.Omega.{arith}
 use lib.Arith.{digits-div, digits-mod, digits-lt}
 use mathlib.Core.Path.{_≡_, refl, sym, ap, _∙_}
-use mathlib.Core.Bool.{Bool}
 use mathlib.Core.List.{List, [], _∷_}
 use borrow.Author.Tests.{lt-ltb, le-ltb}
 use lib.Dec.{leb, ltb, lit<}
@@ -40,6 +38,7 @@ use lib.IntN.{natAbs}
 use lib.ListN.{length, getD, take, drop, length-drop, drop-of-length-le, List·getD-eq-default}
 use lib.Seq.{take-all, take-nil, take-length, drop-length, getD-drop, getD-take, length-take-le}
 use Rattle.residue.specs.Rules.{modulus, signedEntry}
+use Rattle.algebra.specs.Laws.Fills.{digits-same}
 use Rattle.ticket.specs.declared.setting.Setting.{Setting}
 use Rattle.ticket.specs.Rules.{mostRows, mostInner, mostColumns, halfRange, isEntry, shiftedQuotient, Test, test, Part, noPart, parts, part, partSize, count, start, records, recordBytes, ticketLength, holder, ofA, ofB, ofQuotients, ofRemainders, byteAt, valueAt, formed, partTests, recordTests, valueIn}
 use Rattle.ticket.specs.Laws.Limits.{Counts}
@@ -49,28 +48,14 @@ use Rattle.ticket.specs.Laws.Limits.{Counts}
 abbrev nth : List Part → ℕ → Part
 nth l w = getD l w noPart
 
-pub data Each (Q : Part → Type 0) : List Part → Type 0 where
-  no-parts : Each Q []
-  one-part : {P : Part} {rest : List Part} → Q P → Each Q rest → Each Q (P ∷ rest)
-
-nth-all : {Q : Part → Type 0} {l : List Part} → Each Q l → (w : ℕ) → w < length l → Q (nth l w)
-nth-all no-parts w m = absurd (omega arith)
-nth-all (one-part q r) zero m = q
-nth-all (one-part q r) (suc w) m = nth-all r w (omega arith)
-
-next-count : (l : List Part) (w : ℕ) → count (take (suc w) l) ≡ count (take w l) + partSize (nth l w)
+-- each part starts where the one before it ends, and none ends past the last
+counted : (l : List Part) (w : ℕ) → (count (take (suc w) l) ≡ count (take w l) + partSize (nth l w))
+    × (count (take w l) + partSize (nth l w) ≤ count l)
 unfolding count
-next-count [] zero = refl
-next-count [] (suc w) = refl
-next-count (P ∷ rest) zero = omega arith
-next-count (P ∷ rest) (suc w) = omega (arith, next-count rest w)
-
-count-within : (l : List Part) (w : ℕ) → count (take w l) + partSize (nth l w) ≤ count l
-unfolding count
-count-within [] zero = omega arith
-count-within [] (suc w) = omega arith
-count-within (P ∷ rest) zero = omega arith
-count-within (P ∷ rest) (suc w) = omega (arith, count-within rest w)
+counted [] zero = (refl, omega arith)
+counted [] (suc w) = (refl, omega arith)
+counted (P ∷ rest) zero = (omega arith, omega arith)
+counted (P ∷ rest) (suc w) = let h = counted rest w in (omega arith, omega arith)
 
 holder-nth : (l : List Part) (w i : ℕ) → i < partSize (nth l w) → holder l (count (take w l) + i) ≡ w
 unfolding count holder
@@ -82,50 +67,34 @@ holder-nth (P ∷ rest) (suc w) i m =
     let past : k - partSize P ≡ count (take w rest) + i = omega arith in
     rw (le-ltb k (partSize P) (omega arith), past) (ap suc (holder-nth rest w i m))
 
-record HeldIn (l : List Part) (k w : ℕ) : Type 0 where
-  within : w < length l
-  from : count (take w l) ≤ k
-  below : k < count (take w l) + partSize (nth l w)
-
-held-in : (l : List Part) (k : ℕ) → k < count l → HeldIn l k (holder l k)
+held-in : (l : List Part) (k : ℕ) → k < count l → let w = holder l k in
+    (w < length l) × (count (take w l) ≤ k) × (k < count (take w l) + partSize (nth l w))
 unfolding count holder
 held-in [] k m = absurd (omega arith)
 held-in (P ∷ rest) k m =
     elim (decLe (partSize P) k) [
       | no a ↦
           let here : k < partSize P = omega arith in
-          rw (lt-ltb k (partSize P) here) (record { within = omega arith; from = omega arith; below = omega arith })
+          rw (lt-ltb k (partSize P) here) (omega arith, omega arith, omega arith)
       | yes a ↦
           let h = held-in rest (k - partSize P) (omega arith) in
-          rw (le-ltb k (partSize P) a)
-          (record { within = omega (arith, h .within); from = omega (arith, h .from); below = omega (arith, h .below) })
+          rw (le-ltb k (partSize P) a) (omega arith, omega arith, omega arith)
     ]
-
-count-all : (l : List Part) {w : ℕ} → length l ≤ w → count (take w l) ≡ count l
-count-all l h = ap count (take-all _ l h)
 
 -- the ticket's
 
 module _ (G : Setting) where
-  pub part-all : {Q : Part → Type 0} → Each Q (parts G) → {w : ℕ} → w < length (parts G) → Q (part G w)
-  unfolding part
-  part-all each {w} m = nth-all each w m
-
   pub start-none : start G 0 ≡ 0
   unfolding start count
   start-none = refl
 
   pub start-next : (w : ℕ) → start G (w + 1) ≡ start G w + partSize (part G w)
   unfolding start part
-  start-next w = rw (add-one w) (next-count (parts G) w)
+  start-next w = rw (add-one w) (counted (parts G) w .0)
 
   pub ends-within : (w : ℕ) → start G w + partSize (part G w) ≤ records G
   unfolding start part records
-  ends-within w = count-within (parts G) w
-
-  pub records-end : {w : ℕ} → length (parts G) ≤ w → start G w ≡ records G
-  unfolding start records
-  records-end h = count-all (parts G) h
+  ends-within w = counted (parts G) w .1
 
   pub holder-at : {w i : ℕ} → i < partSize (part G w) → holder (parts G) (start G w + i) ≡ w
   unfolding start part
@@ -138,7 +107,7 @@ module _ (G : Setting) where
 
   pub held : {k : ℕ} → k < records G → Held k (holder (parts G) k)
   unfolding start part records
-  held {k} m = let h = held-in (parts G) k m in record { within = h .within; from = h .from; below = h .below }
+  held {k} m = let h = held-in (parts G) k m in record { within = h .0; from = h .1; below = h .2 }
 
 -- the parts by name
 pub record PartsAre (G : Setting) : Type 0 where
@@ -179,7 +148,8 @@ module _ (G : Setting) {w : ℕ} where
   size-past past = ap partSize (List·getD-eq-default (parts G) noPart (omega (arith, parts-are G .four)))
 
   pub start-past : 4 ≤ w → start G w ≡ records G
-  start-past past = records-end G (omega (arith, parts-are G .four))
+  unfolding start records
+  start-past past = ap count (take-all w (parts G) (omega (arith, parts-are G .four)))
 
 pub length-is : (G : Setting) → ticketLength G ≡ 8 * (G .rows * G .inner + G .inner * G .columns + 2 * (G .rows * G .columns))
 unfolding ticketLength
@@ -256,10 +226,8 @@ pub record-at : (G : Setting) (w row column : ℕ) → row < part G w .rows → 
     → (start G w + (row * part G w .columns + column) < records G)
     × Located G (start G w + (row * part G w .columns + column)) w row column
 record-at G w row column l m =
-    let inside : row * part G w .columns + column < partSize (part G w) = digits-lt l m in (
-      omega (arith, ends-within G w),
-      record { in-part = holder-at G inside; place = refl; row-within = l; column-within = m },
-    )
+    let inside : row * part G w .columns + column < partSize (part G w) = digits-lt l m in
+    (omega (arith, ends-within G w), record { in-part = holder-at G inside; place = refl; row-within = l; column-within = m })
 
 pub located-at : (G : Setting) (k : ℕ) → k < records G
     → (w : ℕ) × Held G k w × Located G k w ((k - start G w) / part G w .columns) ((k - start G w) % part G w .columns)
@@ -272,16 +240,9 @@ located-at G k l =
     let some : 0 < P .columns = elim (decLe 1 (P .columns)) [
       | yes le ↦ le
       | no lt ↦ let none : P .columns ≡ 0 = omega arith in absurd (omega (arith, ap (λ n. P .rows * n) none))
-    ] in (
-      w,
-      h,
-      record {
-        in-part = refl;
-        place = omega (arith, div-add-mod' i (P .columns), h .from);
-        row-within = div-lt-iff-lt-mul some .1 inside;
-        column-within = mod-lt i some;
-      },
-    )
+    ] in
+    let place : k ≡ start G w + (i / P .columns * P .columns + i % P .columns) = omega (arith, div-add-mod' i (P .columns), h .from) in
+    (w, h, record { in-part = refl; place = place; row-within = div-lt-iff-lt-mul some .1 inside; column-within = mod-lt i some })
 
 pub located-once : {G : Setting} {k w w' row row' column column' : ℕ}
     → Located G k w row column → Located G k w' row' column' → (w ≡ w') × (row ≡ row') × (column ≡ column')
@@ -290,11 +251,9 @@ located-once {G} {k} {w} {w'} {row} {row'} {column} {column'} a b =
     let P = part G w' in
     let place : k ≡ start G w' + (row * P .columns + column) = rw same at (a .place) in
     let inside : column < P .columns = rw same at (a .column-within) in
-    let index : row * P .columns + column ≡ row' * P .columns + column' = omega (arith, place, b .place) in (
-      same,
-      sym (digits-div row inside) ∙ ap (λ n. n / P .columns) index ∙ digits-div row' (b .column-within),
-      sym (digits-mod row inside) ∙ ap (λ n. n % P .columns) index ∙ digits-mod row' (b .column-within),
-    )
+    let index : row * P .columns + column ≡ row' * P .columns + column' = omega (arith, place, b .place) in
+    let digits = digits-same (P .columns) inside (b .column-within) index in
+    (same, digits .0, digits .1)
 
 abbrev pub locatedTests : Setting → List ℕ → ℕ → ℕ → ℕ → ℕ → List Test
 locatedTests G t k w row column =
@@ -353,13 +312,17 @@ module _ (G : Setting) where
     unfolding parts part
     range-remainders = refl
 
+  pub each-part : (Q : ℕ → Type 0) → Q ofA → Q ofB → Q ofQuotients → Q ofRemainders → (w : ℕ) → w < length (parts G) → Q w
+  unfolding parts
+  each-part Q a b q r zero h = a
+  each-part Q a b q r (suc zero) h = b
+  each-part Q a b q r (suc (suc zero)) h = q
+  each-part Q a b q r (suc (suc (suc zero))) h = r
+  each-part Q a b q r (suc (suc (suc (suc w)))) h = absurd (omega arith)
+
   pub every-part : (Q : ℕ → ℕ → ℕ → Type 0) → ((i j : ℕ) → i < G .rows → j < G .inner → Q ofA i j)
       → ((i j : ℕ) → i < G .inner → j < G .columns → Q ofB i j) → ((i j : ℕ) → i < G .rows → j < G .columns → Q ofQuotients i j)
       → ((i j : ℕ) → i < G .rows → j < G .columns → Q ofRemainders i j)
       → (w i j : ℕ) → w < length (parts G) → i < part G w .rows → j < part G w .columns → Q w i j
   unfolding parts part
-  every-part Q a b q r zero i j h l m = a i j l m
-  every-part Q a b q r (suc zero) i j h l m = b i j l m
-  every-part Q a b q r (suc (suc zero)) i j h l m = q i j l m
-  every-part Q a b q r (suc (suc (suc zero))) i j h l m = r i j l m
-  every-part Q a b q r (suc (suc (suc (suc w)))) i j h l m = absurd (omega arith)
+  every-part Q a b q r w i j h = each-part (λ w. (i j : ℕ) → i < part G w .rows → j < part G w .columns → Q w i j) a b q r w h i j

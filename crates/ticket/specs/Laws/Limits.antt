@@ -23,7 +23,6 @@ use native.Mathlib.Omega.{arith}
 use mathlib.Core.Path.{_≡_, ap}
 use mathlib.Core.Bool.{Bool, true, _&&_, and-eq-true-iff}
 use borrow.Author.Tests.{leb-true, ltb-true}
-use lib.Dec.{leb, ltb}
 use lib.Pow.{pow-mono}
 use Rattle.residue.specs.Rules.{modulus}
 use Rattle.ticket.specs.declared.setting.Setting.{Setting}
@@ -33,10 +32,8 @@ use Rattle.ticket.specs.Laws.Tests.{AllHold, first-holds, rest-hold, Num
 pub both : (a b : Bool) → (a && b) ≡ true → (a ≡ true) × (b ≡ true)
 both a b e = and-eq-true-iff a b .0 e
 
-pub within-both : (low high n : ℕ) → within low high n ≡ true → (low ≤ n) × (n ≤ high)
-within-both low high n e =
-    let h = both (leb low n) (leb n high) e in
-    (leb-true low n (h .0), leb-true n high (h .1))
+pub within-both : {low high n : ℕ} → within low high n ≡ true → (low ≤ n) × (n ≤ high)
+within-both e = let h = both _ _ e in (leb-true _ _ (h .0), leb-true _ _ (h .1))
 
 pub record Sizes (G : Setting) : Type 0 where
   pub rows : (1 ≤ G .rows) × (G .rows ≤ mostRows)
@@ -82,32 +79,21 @@ counts {G} sizes =
 pub sizes-of : (G : Setting) → sizesWithin G ≡ true → Sizes G
 unfolding sizesWithin
 sizes-of G e =
-    let h = both (within 1 mostRows (G .rows) && within 1 mostInner (G .inner) && within 1 mostColumns (G .columns)) (within 1 mostVectors (G .vectors)) e in
-    let k = both (within 1 mostRows (G .rows) && within 1 mostInner (G .inner)) (within 1 mostColumns (G .columns)) (h .0) in
-    let l = both (within 1 mostRows (G .rows)) (within 1 mostInner (G .inner)) (k .0) in
-    record {
-      rows = within-both 1 mostRows (G .rows) (l .0);
-      inner = within-both 1 mostInner (G .inner) (l .1);
-      columns = within-both 1 mostColumns (G .columns) (k .1);
-      vectors = within-both 1 mostVectors (G .vectors) (h .1);
-    }
+    let h = both _ _ e in
+    let k = both _ _ (h .0) in
+    let l = both _ _ (k .0) in
+    record { rows = within-both (l .0); inner = within-both (l .1); columns = within-both (k .1); vectors = within-both (h .1) }
 
 pub numbers-of : (G : Setting) → numbersWithin G ≡ true → Numbers G
 unfolding numbersWithin
 numbers-of G e =
-    let h = both (within 2 mostScale (G .scale) && within 1 mostBound (G .bound)) (within 1 mostWidth (G .width)) e in
-    let k = both (within 2 mostScale (G .scale)) (within 1 mostBound (G .bound)) (h .0) in
-    record {
-      scale = within-both 2 mostScale (G .scale) (k .0);
-      bound = within-both 1 mostBound (G .bound) (k .1);
-      width = within-both 1 30 (G .width) (h .1);
-    }
+    let h = both _ _ e in
+    let k = both _ _ (h .0) in
+    record { scale = within-both (k .0); bound = within-both (k .1); width = within-both (h .1) }
 
 fitted-of : (G : Setting) → fits G ≡ true → Fitted G
 unfolding fits
-fitted-of G e =
-    let h = both (leb (reach G + G .scale - 1) (lift G)) (ltb (2 ^ G .width * G .scale) modulus) e in
-    record { sums = leb-true _ _ (h .0); claims = ltb-true _ _ (h .1) }
+fitted-of G e = let h = both _ _ e in record { sums = leb-true _ _ (h .0); claims = ltb-true _ _ (h .1) }
 
 pub record Within (G : Setting) : Type 0 where
   pub sizes : Sizes G
@@ -117,11 +103,8 @@ pub record Within (G : Setting) : Type 0 where
 pub limits-of : (G : Setting) → AllHold (settingTests G) → Within G
 unfolding settingTests
 limits-of G h =
-    record {
-      sizes = sizes-of G (first-holds h);
-      numbers = numbers-of G (first-holds (rest-hold h));
-      fitted = fitted-of G (first-holds (rest-hold (rest-hold h)));
-    }
+    let rest = rest-hold h in
+    record { sizes = sizes-of G (first-holds h); numbers = numbers-of G (first-holds rest); fitted = fitted-of G (first-holds (rest-hold rest)) }
 
 pub setting-numbered : (G : Setting) → Numbered 1 3 (settingTests G)
 unfolding settingTests Numbered
@@ -139,14 +122,9 @@ half-double {G} numbers =
     omega (arith, pow-suc 2 (G .width - 1), ap (λ n. 2 ^ n) more)
 
 pub fit-products : {G : Setting} → Sizes G → Numbers G → FitProducts G
-fit-products {G} sizes numbers =
-    let bound : G .bound ≤ mostBound = omega arith in
-    let square : G .bound * G .bound ≤ mostBound * mostBound = mul-le-mul bound bound in
-    record {
-      square = square;
-      sums = mul-le-mul (sizes .inner .1) square;
-      lifted = mul-le-mul (half-small numbers) (numbers .scale .1);
-    }
+fit-products sizes numbers =
+    let square = mul-le-mul (numbers .bound .1) (numbers .bound .1) in
+    record { square = square; sums = mul-le-mul (sizes .inner .1) square; lifted = mul-le-mul (half-small numbers) (numbers .scale .1) }
 
 pub lift-double : {G : Setting} → Numbers G → 2 * lift G ≡ 2 ^ G .width * G .scale
 lift-double {G} numbers = omega (arith, ap (λ n. n * G .scale) (half-double numbers))
@@ -171,13 +149,8 @@ clamped G =
 pub clamped-same : {G : Setting} → Sizes G → Numbers G → clamped G ≡ G
 unfolding clamped
 clamped-same {G} sizes numbers =
-    rw (
-      min-eq-left (sizes .rows .1),
-      min-eq-left (sizes .inner .1),
-      min-eq-left (sizes .columns .1),
-      min-eq-left (numbers .scale .1),
-      min-eq-left (numbers .width .1),
-    )
+    rw (min-eq-left (sizes .rows .1), min-eq-left (sizes .inner .1), min-eq-left (sizes .columns .1))
+    (rw (min-eq-left (numbers .scale .1), min-eq-left (numbers .width .1)))
 
 pub record Clamped (G : Setting) : Type 0 where
   pub entries-A : G .rows * G .inner ≤ mostRows * mostInner

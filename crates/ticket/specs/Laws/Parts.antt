@@ -2,22 +2,21 @@
 --
 --   entry-range        an entry is in range exactly when, shifted by the bound, it is at most twice the bound
 --   MakesTests F P     the form F of the code makes the tests of the part P
---   forms-make         the form of each part does
+--   forms-make         the forms of the parts do
 --   ReadReady G t      setting and length pass their tests
---   PartReady G t w    so they do, and w is the number of a part
+--   PartRecords G t w b F   so they do, b are the bytes of part w, and F makes its tests
 --   part-holds, part-early   then the part can be read by its form, and does not start late
---   partRead G t w, part-answer   the answer of part w, and that it is the code's
+--   partRead G t w, part-answer   the answer of part w, and that it is the code's by the form of the part
 --   ReadTo G t w       the records before part w pass
 --   read-none, read-next, read-refused, read-all   no part yet, one that passes more, one that does not, and all parts
-use Prim.Native.Nat.{ℕ, zero, suc, _+_, _-_, _*_, _/_, _%_, _^_, _≤_, _<_}
+use Prim.Native.Nat.{ℕ, _+_, _-_, _*_, _/_, _%_, _^_, _≤_, _<_}
 use native.Mathlib.Nat.{zero-add, add-zero, mod-eq-of-lt}
 use native.Mathlib.Decide.{decLe}
 use native.Mathlib.Omega.{arith}
-use mathlib.Core.Logic.{⊎-elim}
-use mathlib.Core.Path.{_≡_, refl, sym, ap, _∙_}
+use mathlib.Core.Path.{_≡_, refl, sym, _∙_}
 use mathlib.Core.Bool.{Bool}
 use mathlib.Core.List.{List, [], _∷_}
-use borrow.Author.Tests.{lt-ltb, le-ltb, le-leb, lt-leb}
+use borrow.Author.Tests.{le-ltb}
 use lib.Dec.{leb, ltb}
 use lib.IntN.{natAbs}
 use lib.ListN.{length}
@@ -28,12 +27,13 @@ use Rattle.residue.specs.Laws.Modulus.{modulus-positive, modulus-above}
 use Rattle.ticket.specs.declared.setting.Setting.{Setting}
 use Rattle.ticket.specs.declared.Answer.{Answer}
 use Rattle.ticket.specs.declared.records.Form.{Form}
-use Rattle.ticket.specs.Rules.{test, firstFailed, Part, parts, part, partSize, start, records, isEntry, isQuotient, shiftedQuotient, ticketLength, formed, valueAt, partTests, recordTests, recordNumber, refusal, firstRefusal}
+use Rattle.ticket.specs.Rules.{test, firstFailed, Part, parts, part, ofA, ofB, ofQuotients, ofRemainders, partSize, start, records, isEntry, isQuotient, shiftedQuotient, ticketLength, formed, valueAt, partTests, recordTests, recordNumber, refusal, firstRefusal}
 use Rattle.ticket.specs.Laws.Limits.{Numbers, Counts, half-small, half-double, clamped, clamped-same}
-use Rattle.ticket.specs.Laws.Layout.{no-parts, one-part, part-all, parts-are, start-none, start-next, ends-within, start-past, holder-at, partBytes, part-bytes-long, form-of-part, value-of-part}
-use Rattle.ticket.specs.Laws.Scans.{refusal-none, refusal-is, zeros-or-first}
+use Rattle.ticket.specs.Laws.Layout.{each-part, parts-are, start-none, start-next, ends-within, start-past, holder-at, partBytes, part-bytes-long, form-of-part, value-of-part}
+use Rattle.ticket.specs.Laws.Tests.{same-test}
+use Rattle.ticket.specs.Laws.Scans.{refusal-none, refusal-cong, refusal-split, after-passed, after-refused}
 use Rattle.ticket.specs.Laws.Answers.{scan-zero}
-use Rattle.ticket.specs.Laws.Forms.{formsOf, formOf, tested, testedAt, partAnswer, Holds, Ranged}
+use Rattle.ticket.specs.Laws.Forms.{entriesForm, quotientsForm, remaindersForm, tested, testedAt, partAnswer, Holds, Ranged}
 
 pub entry-range : (p : ℕ) → 0 < p → (T v : ℕ) → T ≤ (p - 1) / 2 → v < p
     → leb (natAbs (signedEntry p v)) T ≡ ltb ((v + T) % p) (2 * T + 1)
@@ -41,21 +41,14 @@ entry-range p above T v h k =
     elim (decLe v ((p - 1) / 2)) [
       | yes low ↦
           let small : v + T < p = omega arith in
-          rw (entry-low p above v low, mod-eq-of-lt small)
-          (elim (decLe v T) [
-            | yes le ↦ le-leb v T le ∙ sym (lt-ltb (v + T) (2 * T + 1) (omega arith))
-            | no gt ↦ lt-leb v T (omega arith) ∙ sym (le-ltb (v + T) (2 * T + 1) (omega arith))
-          ])
+          rw (entry-low p above v low, mod-eq-of-lt small) (same-test v T (v + T) (2 * T + 1) (λ e. omega arith) (λ e. omega arith))
       | no high ↦
           rw (entry-high p above v (omega arith) k)
           (elim (decLe p (v + T)) [
-            | yes le ↦
-                le-leb (suc (p - suc v)) T (omega arith)
-                ∙ sym (rw (mod-once p (v + T) le (omega arith)) (lt-ltb (v + T - p) (2 * T + 1) (omega arith)))
+            | yes le ↦ rw (mod-once p (v + T) le (omega arith)) (same-test _ T _ (2 * T + 1) (λ e. omega arith) (λ e. omega arith))
             | no gt ↦
                 let small : v + T < p = omega arith in
-                lt-leb (suc (p - suc v)) T (omega arith)
-                ∙ sym (rw (mod-eq-of-lt small) (le-ltb (v + T) (2 * T + 1) (omega arith)))
+                rw (mod-eq-of-lt small) (same-test _ T _ (2 * T + 1) (λ e. omega arith) (λ e. omega arith))
           ])
     ]
 
@@ -79,16 +72,18 @@ module _ {G : Setting} (numbers : Numbers G) where
   unfolding isEntry
   entries v l = sym (entry-range modulus modulus-positive (G .bound) v (omega (arith, modulus-above)) l)
 
-  pub forms-make : (w : ℕ) → w < 4 → MakesTests (formOf G w) (part G w)
-  unfolding formsOf formOf parts part shiftedQuotient
-  forms-make zero m = by-shift (formOf G 0) (isEntry (G .bound)) entries (omega arith) (omega (arith, modulus-above))
-  forms-make (suc zero) m = by-shift (formOf G 1) (isEntry (G .bound)) entries (omega arith) (omega (arith, modulus-above))
-  forms-make (suc (suc zero)) m =
-      by-shift (formOf G 2) (isQuotient (G .width)) (λ v l. rw (half-double {G = G} numbers)) (omega arith)
-      (omega (arith, half-small {G = G} numbers, modulus-above))
-  forms-make (suc (suc (suc zero))) m =
-      by-shift (formOf G 3) (λ v. ltb v (G .scale)) (λ v l. rw (add-zero v, mod-eq-of-lt l)) (omega arith) (omega (arith, modulus-above))
-  forms-make (suc (suc (suc (suc w)))) m = absurd (omega arith)
+  pub forms-make : MakesTests (entriesForm 1 (G .rows) (G .inner) (G .bound)) (part G ofA)
+      × MakesTests (entriesForm 2 (G .inner) (G .columns) (G .bound)) (part G ofB)
+      × MakesTests (quotientsForm G) (part G ofQuotients)
+      × MakesTests (remaindersForm G) (part G ofRemainders)
+  unfolding parts part shiftedQuotient
+  forms-make = (
+    by-shift _ (isEntry (G .bound)) entries (omega arith) (omega (arith, modulus-above)),
+    by-shift _ (isEntry (G .bound)) entries (omega arith) (omega (arith, modulus-above)),
+    by-shift _ (isQuotient (G .width)) (λ v l. rw (half-double {G = G} numbers)) (omega arith)
+        (omega (arith, half-small {G = G} numbers, modulus-above)),
+    by-shift _ (λ v. ltb v (G .scale)) (λ v l. rw (add-zero v, mod-eq-of-lt l)) (omega arith) (omega (arith, modulus-above)),
+  )
 
 -- the range of a value matters only where the value is below p
 number-range : (form : Bool) (value : ℕ) (a b : Bool) (outside : ℕ) → (value < modulus → a ≡ b)
@@ -104,110 +99,85 @@ pub record ReadReady (G : Setting) (t : List ℕ) : Type 0 where
   pub numbers : Numbers G
   pub long : length t ≡ ticketLength G
 
-pub record PartReady (G : Setting) (t : List ℕ) (w : ℕ) : Type 0 where
+unfoldable pub partRead : Setting → List ℕ → ℕ → Answer
+partRead G t w = firstRefusal (start G w) (partSize (part G w)) (λ i. recordNumber G t (start G w + i))
+
+-- b are the bytes of a part that can be read, and F makes its tests
+pub record PartRecords (G : Setting) (t : List ℕ) (w : ℕ) (b : List ℕ) (F : Form) : Type 0 where
   pub ready : ReadReady G t
   pub known : w < 4
+  pub bytes : b ≡ partBytes (clamped G) t w
+  pub makes : MakesTests F (part G w)
 
-unfoldable pub partRead : Setting → List ℕ → ℕ → Answer
-partRead G t w = partAnswer (formOf G w) (start G w) (partBytes G t w)
+module _ {G : Setting} {t : List ℕ} {w : ℕ} {b : List ℕ} {F : Form} (part-is : PartRecords G t w b F) where
+  same : clamped G ≡ G
+  same = clamped-same (part-is .ready .counts .sizes) (part-is .ready .numbers)
+
+  size : F .rows * F .columns ≡ partSize (part G w)
+  size = rw (part-is .makes .rows, part-is .makes .columns)
+
+  -- no part of a setting within its limits is without columns
+  wide : 1 ≤ part G w .columns
+  unfolding parts part
+  wide =
+      let s = part-is .ready .counts .sizes in
+      each-part G (λ w. 1 ≤ part G w .columns) (s .inner .0) (s .columns .0) (s .columns .0) (s .columns .0) w (part-is .known)
+
+  pub part-holds : Holds b F
+  part-holds =
+      record {
+        columns = rw (part-is .makes .columns) wide;
+        few = omega (arith, size, ends-within G w, parts-are G .all, part-is .ready .counts);
+        long = rw (part-is .bytes, same) (omega (arith, size, part-bytes-long G t w (part-is .ready .long)));
+        range = part-is .makes .ranged;
+      }
+
+  -- record i of the part, by the form of the code
+  tested-part : (i : ℕ) → i < partSize (part G w) → tested b F i ≡ recordNumber G t (start G w + i)
+  unfolding testedAt recordTests partTests
+  tested-part i m =
+      let P = part G w in
+      let value = valueAt t (start G w + i) in
+      let index : start G w + i - start G w ≡ i = omega arith in
+      let makes = part-is .makes in
+      rw (part-is .bytes, same, holder-at G m, index, makes .kind, makes .columns, makes .outside)
+      (rw (form-of-part G t w m (P .kind) (i / P .columns) (i % P .columns), value-of-part G t w m)
+      (number-range (formed t (start G w + i) (P .kind) (i / P .columns) (i % P .columns)) value
+      (ltb ((value + F .shift) % modulus) (F .limit)) (P .range value) (P .outside) (makes .range value)))
+
+  module _ {a : ℕ} (from : a ≡ start (clamped G) w) where
+    pub part-early : a < 2 ^ 16
+    part-early = rw (from, same) (omega (arith, ends-within G w, parts-are G .all, part-is .ready .counts))
+
+    pub part-answer : partAnswer F a b ≡ partRead G t w
+    unfolding partRead
+    part-answer = rw (from, same, size) (refusal-cong (start G w) (partSize (part G w)) _ _ tested-part)
 
 -- the records before part w pass
 abbrev pub ReadTo : Setting → List ℕ → ℕ → Type 0
-ReadTo G t w = (k : ℕ) → k < start G w → recordNumber G t k ≡ 0
+ReadTo G t w = firstRefusal 0 (start G w) (recordNumber G t) .number ≡ 0
 
 module _ (G : Setting) (t : List ℕ) where
   pub read-none : ReadTo G t 0
-  read-none k l = absurd (omega (arith, start-none G))
+  read-none = scan-zero 0 (start G 0) (recordNumber G t) .1 (λ k l. absurd (omega (arith, start-none G)))
 
   pub read-all : {w : ℕ} → 4 ≤ w → ReadTo G t w → refusal 0 0 ≡ firstRefusal 0 (records G) (recordNumber G t)
-  read-all past passed = sym (refusal-none 0 (records G) (recordNumber G t) (λ k l. passed k (omega (arith, start-past G past))))
+  read-all past passed =
+      let zeros = scan-zero 0 (start G _) (recordNumber G t) .0 passed in
+      sym (refusal-none 0 (records G) (recordNumber G t) (λ k l. zeros k (omega (arith, start-past G past))))
 
-  module _ {w : ℕ} (ready : PartReady G t w) where
-    makes : MakesTests (formOf G w) (part G w)
-    makes = forms-make (ready .ready .numbers) w (ready .known)
+  module _ (w : ℕ) {a : Answer} (before : ReadTo G t w) (is : a ≡ partRead G t w) where
+    -- the answer of the records before the next part
+    so-far : a ≡ firstRefusal 0 (start G (w + 1)) (recordNumber G t)
+    unfolding partRead
+    so-far =
+        is ∙ sym (rw (start-next G w) (refusal-split 0 (start G w) (partSize (part G w)) (recordNumber G t)
+        ∙ after-passed _ _ before ∙ rw (zero-add (start G w))))
 
-    -- no part of a setting within its limits is without columns
-    wide : 1 ≤ part G w .columns
-    unfolding parts
-    wide =
-        let s = ready .ready .counts .sizes in
-        part-all G {Q = λ P. 1 ≤ P .columns}
-        (one-part (s .inner .0) (one-part (s .columns .0) (one-part (s .columns .0) (one-part (s .columns .0) no-parts)))) (ready .known)
+    pub read-next : a .number ≡ 0 → ReadTo G t (w + 1)
+    read-next z = rw (← so-far) z
 
-    module _ {b : List ℕ} {F : Form} (bytes : b ≡ partBytes (clamped G) t w) (form : F ≡ formOf G w) where
-      same : clamped G ≡ G
-      same = clamped-same (ready .ready .counts .sizes) (ready .ready .numbers)
-
-      pub part-holds : Holds b F
-      part-holds =
-          let size : F .rows * F .columns ≡ partSize (part G w) = rw (form, makes .rows, makes .columns) in
-          record {
-            columns = rw (form, makes .columns) wide;
-            few = omega (arith, ends-within G w, parts-are G .all, ready .ready .counts);
-            long = rw (bytes, same) (omega (arith, part-bytes-long G t w (ready .ready .long)));
-            range = rw form (makes .ranged);
-          }
-
-      module _ {a : ℕ} (from : a ≡ start (clamped G) w) where
-        pub part-early : a < 2 ^ 16
-        part-early = rw (from, same) (omega (arith, ends-within G w, parts-are G .all, ready .ready .counts))
-
-        pub part-answer : partAnswer F a b ≡ partRead G t w
-        unfolding partRead
-        part-answer = rw (bytes, form, from, same)
-
-    -- record i of the part, by the form of the code
-    tested-part : (i : ℕ) → i < partSize (part G w) → tested (partBytes G t w) (formOf G w) i ≡ recordNumber G t (start G w + i)
-    unfolding testedAt recordTests partTests
-    tested-part i m =
-        let P = part G w in
-        let value = valueAt t (start G w + i) in
-        let index : start G w + i - start G w ≡ i = omega arith in
-        rw (
-          holder-at G m,
-          index,
-          makes .kind,
-          makes .columns,
-          makes .outside,
-          form-of-part G t w m (P .kind) (i / P .columns) (i % P .columns),
-          value-of-part G t w m,
-        )
-        (number-range (formed t (start G w + i) (P .kind) (i / P .columns) (i % P .columns)) value
-        (ltb ((value + formOf G w .shift) % modulus) (formOf G w .limit)) (P .range value) (P .outside) (makes .range value))
-
-    module _ {a : Answer} (before : ReadTo G t w) (is : a ≡ partRead G t w) where
-      size : formOf G w .rows * formOf G w .columns ≡ partSize (part G w)
-      size = rw (makes .rows, makes .columns)
-
-      -- the first i records of the part pass too
-      passed-records : {i : ℕ} → i ≤ partSize (part G w) → ((j : ℕ) → j < i → tested (partBytes G t w) (formOf G w) j ≡ 0)
-          → (k : ℕ) → k < start G w + i → recordNumber G t k ≡ 0
-      passed-records inside zeros k l =
-          elim (decLe (start G w) k) [
-            | no earlier ↦ before k (omega arith)
-            | yes from ↦
-                let same : k ≡ start G w + (k - start G w) = omega arith in
-                ap (recordNumber G t) same ∙ sym (tested-part (k - start G w) (omega arith)) ∙ zeros (k - start G w) (omega arith)
-          ]
-
-      pub read-next : a .number ≡ 0 → ReadTo G t (w + 1)
-      unfolding partRead
-      read-next z k l =
-          let zeros = scan-zero (start G w) _ (tested (partBytes G t w) (formOf G w)) .0 (sym (ap (λ x. x .number) is) ∙ z) in
-          passed-records {i = partSize (part G w)} (omega arith) (λ j m. zeros j (omega (arith, size))) k (omega (arith, start-next G w))
-
-      pub read-refused : (a .number ≡ 0 → ⊥) → a ≡ firstRefusal 0 (records G) (recordNumber G t)
-      unfolding partRead
-      read-refused d =
-          let f = tested (partBytes G t w) (formOf G w) in
-          let n = formOf G w .rows * formOf G w .columns in
-          ⊎-elim
-          (λ z. absurd (d (ap (λ x. x .number) (is ∙ refusal-none (start G w) n f z))))
-          (λ o. let i = o .0 in
-          let at = o .1 in
-          let inside : i < partSize (part G w) = omega (arith, size, at .within) in
-          let number = tested-part i inside in
-          is ∙ refusal-is (start G w) n i f (at .within) (at .before) (at .other) ∙ ap (λ c. refusal c (start G w + i)) number
-          ∙ sym (refusal-is 0 (records G) (start G w + i) (recordNumber G t) (omega (arith, ends-within G w))
-          (passed-records (omega arith) (at .before)) (λ z. at .other (number ∙ z)) ∙ ap (refusal _) (zero-add _)))
-          (zeros-or-first n f)
+    pub read-refused : (a .number ≡ 0 → ⊥) → a ≡ firstRefusal 0 (records G) (recordNumber G t)
+    read-refused d =
+        let rest : records G ≡ start G (w + 1) + (records G - start G (w + 1)) = omega (arith, start-next G w, ends-within G w) in
+        so-far ∙ sym (rw rest (refusal-split 0 (start G (w + 1)) _ (recordNumber G t) ∙ after-refused _ _ (rw so-far at d)))

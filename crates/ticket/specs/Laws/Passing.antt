@@ -15,7 +15,7 @@ use native.Mathlib.Omega.{arith}
 use mathlib.Core.Path.{_≡_, sym, ap, _∙_}
 use mathlib.Core.Bool.{Bool, true, _&&_, and-false}
 use mathlib.Core.List.{List}
-use borrow.Author.Tests.{le-leb, lt-leb, le-ltb, lt-ltb}
+use borrow.Author.Tests.{le-ltb}
 use lib.Arith.{digits-div, digits-mod}
 use lib.Dec.{leb, ltb}
 use Rattle.residue.specs.Rules.{modulus}
@@ -26,7 +26,7 @@ use Rattle.ticket.specs.Laws.All.{all, all-at, all-cong, all-split}
 use Rattle.ticket.specs.Laws.Limits.{both}
 use Rattle.ticket.specs.Laws.Forms.{testedAt, tested, partAnswer, Ranged}
 use Rattle.ticket.specs.Laws.Scans.{refusal-none}
-use Rattle.ticket.specs.Laws.Tests.{none, one, holding-number}
+use Rattle.ticket.specs.Laws.Tests.{none, one, holding-number, same-test}
 use Rattle.ticket.specs.declared.records.Form.{Form}
 
 unfoldable pub passingAt : List ℕ → Form → ℕ → ℕ → ℕ → Bool
@@ -46,16 +46,10 @@ range-by F range v difference l ds e =
     let small = range .limit in
     let p = modulus-below in
     elim (decLe modulus (v + F .shift)) [
-      | yes h ↦
-          rw (mod-once modulus (v + F .shift) h (omega arith), lt-ltb (v + F .shift - modulus) (F .limit) (omega arith))
-          (le-leb (modulus - F .limit) difference (omega arith))
+      | yes h ↦ rw (mod-once modulus (v + F .shift) h (omega arith)) (same-test _ difference _ (F .limit) (λ g. omega arith) (λ g. omega arith))
       | no h ↦
           let below : v + F .shift < modulus = omega arith in
-          rw (mod-eq-of-lt below)
-          (elim (decLe (F .limit) (v + F .shift)) [
-            | yes h ↦ rw (le-ltb (v + F .shift) (F .limit) h) (lt-leb (modulus - F .limit) difference (omega arith))
-            | no h ↦ rw (lt-ltb (v + F .shift) (F .limit) (omega arith)) (le-leb (modulus - F .limit) difference (omega arith))
-          ])
+          rw (mod-eq-of-lt below) (same-test _ difference _ (F .limit) (λ g. omega arith) (λ g. omega arith))
     ]
 
 module _ (b : List ℕ) (F : Form) (k row column : ℕ) (range : Ranged F) where
@@ -84,8 +78,6 @@ pub passed-part : (b : List ℕ) (F : Form) (start : ℕ) {passed : Bool} → pa
 unfolding passingAt testedAt
 passed-part b F start e t =
     sym (refusal-none start (F .rows * F .columns) (tested b F) (λ k l.
-    let form = formed b k (F .kind) (k / F .columns) (k % F .columns) in
-    let two = both (form && ltb (valueAt b k) modulus) (ltb ((valueAt b k + F .shift) % modulus) (F .limit))
-    (all-at (F .rows * F .columns) (passing b F) (sym e ∙ t) k l) in
-    let first = both form (ltb (valueAt b k) modulus) (two .0) in
+    let two = both _ _ (all-at (F .rows * F .columns) (passing b F) (sym e ∙ t) k l) in
+    let first = both _ _ (two .0) in
     holding-number (one (first .0) (one (first .1) (one (two .1) none)))))

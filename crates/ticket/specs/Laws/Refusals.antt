@@ -3,6 +3,7 @@
 --   PassedTo G t k         the setting and the length pass, and every record before k does
 --   Refused G t c k        the condition of the number c with the place k, no earlier test failing: the first test of the setting that
 --                          fails, the length, or the first test that fails of the first record that does not pass
+--   record-numbered        the numbers of a record's tests are 5 to 9
 --   records-read           where setting and length pass, reading is that of the records
 --   passed-reading         where all tests pass, reading answers 0
 --   refused-reading        where the condition of a number holds, reading answers that number
@@ -14,7 +15,7 @@
 --   reading-form           row and products of reading's answer are 0
 --   ReadingRow G a         the answer a is a row of the published table with a number from 1 to 9, within its bounds
 --   refused-in-table       every refusal is one
-use Prim.Native.Nat.{ℕ, zero, suc, _+_, _≤_, _<_}
+use Prim.Native.Nat.{ℕ, _+_, _≤_, _<_}
 use native.Mathlib.Decide.{ℕ-discrete}
 use native.Mathlib.Omega.{arith}
 use mathlib.Core.Path.{_≡_, sym, ap, _∙_}
@@ -24,12 +25,11 @@ use borrow.Author.Tests.{eq-eqb, ne-eqb}
 use lib.ListN.{length}
 use Rattle.ticket.specs.declared.setting.Setting.{Setting}
 use Rattle.ticket.specs.declared.Answer.{Answer}
-use Rattle.ticket.specs.Rules.{refusal, settingTests, settingNumber, part, partSize, start, records, ticketLength, recordTests, recordNumber, firstRefusal, after, recordsReading, reading}
-use Rattle.ticket.specs.Laws.Tests.{AllHold, Failed, here, later, hold-or-failed, holding-number, failed-number, failed-within}
+use Rattle.ticket.specs.Rules.{refusal, settingTests, settingNumber, parts, part, partSize, start, records, ticketLength, recordTests, recordNumber, firstRefusal, after, recordsReading, reading}
+use Rattle.ticket.specs.Laws.Tests.{AllHold, Failed, Numbered, here, later, hold-or-failed, holding-number, failed-number, failed-within, tests-hold}
 use Rattle.ticket.specs.Laws.Limits.{setting-numbered}
-use Rattle.ticket.specs.Laws.Layout.{located-at, locatedTests, tests-located}
-use Rattle.ticket.specs.Laws.Passes.{record-numbered}
-use Rattle.ticket.specs.Laws.Scans.{refusal-none, refusal-is, after-passed, after-refused}
+use Rattle.ticket.specs.Laws.Layout.{each-part, located-at, locatedTests, tests-located}
+use Rattle.ticket.specs.Laws.Scans.{refusal-none, refusal-is, zeros-or-first, after-passed, after-refused}
 
 pub record PassedTo (G : Setting) (t : List ℕ) (k : ℕ) : Type 0 where
   pub setting : AllHold (settingTests G)
@@ -40,6 +40,19 @@ pub data Refused (G : Setting) (t : List ℕ) : ℕ → ℕ → Type 0 where
   by-setting : {c : ℕ} → Failed (settingTests G) c → Refused G t c 0
   by-length : AllHold (settingTests G) → (length t ≡ ticketLength G → ⊥) → Refused G t 4 0
   by-record : {c k : ℕ} → PassedTo G t k → k < records G → Failed (recordTests G t k) c → Refused G t c k
+
+-- the number of a value out of range is 7 to 9
+outside-within : (G : Setting) {w : ℕ} → w < length (parts G) → (7 ≤ part G w .outside) × (part G w .outside ≤ 9)
+unfolding parts part
+outside-within G {w} m =
+    each-part G (λ w. (7 ≤ part G w .outside) × (part G w .outside ≤ 9)) (omega arith) (omega arith) (omega arith) (omega arith) w m
+
+pub record-numbered : (G : Setting) (t : List ℕ) {k : ℕ} → k < records G → Numbered 5 9 (recordTests G t k)
+unfolding Numbered
+record-numbered G t {k} l =
+    let at = located-at G k l in
+    let outside = outside-within G (at .1 .within) in
+    rw (tests-located t (at .2)) (omega arith, (omega arith, (omega arith, tt)))
 
 module _ (G : Setting) (t : List ℕ) where
   pub refused-number : {c k : ℕ} → Refused G t c k → (1 ≤ c) × (c ≤ 9)
@@ -77,27 +90,23 @@ module _ (G : Setting) (t : List ℕ) where
   unfolding reading recordsReading
   wrong-length d = rw (ne-eqb (length t) (ticketLength G) d)
 
-  passed-to-or-refused : PassedTo G t 0 → (n : ℕ) → n ≤ records G → PassedTo G t n ⊎ ((c : ℕ) × (k : ℕ) × Refused G t c k)
-  passed-to-or-refused none zero l = inl none
-  passed-to-or-refused none (suc n) l =
-      ⊎-elim
-      (λ p. ⊎-elim
-      (λ r. inl (record {
-        setting = p .setting;
-        long = p .long;
-        before = λ i m. elim (ℕ-discrete i n) [ yes e ↦ rw e r | no d ↦ p .before i (omega arith) ];
-      }))
-      (λ f. inr (f .0, n, by-record p (omega arith) (f .1)))
-      (hold-or-failed (recordTests G t n)))
-      inr
-      (passed-to-or-refused none n (omega arith))
+  record-passed : {k : ℕ} → k < records G → recordNumber G t k ≡ 0 → AllHold (recordTests G t k)
+  record-passed {k} l z = tests-hold 5 9 (recordTests G t k) (omega arith) (record-numbered G t l) z
 
   pub passed-or-refused : PassedTo G t (records G) ⊎ ((c : ℕ) × (k : ℕ) × Refused G t c k)
   passed-or-refused =
       ⊎-elim
       (λ s. elim (ℕ-discrete (length t) (ticketLength G)) [
         | yes e ↦
-            passed-to-or-refused (record { setting = s; long = e; before = λ i m. absurd (omega arith) }) (records G) (omega arith)
+            ⊎-elim
+            (λ z. inl (record { setting = s; long = e; before = λ i m. record-passed m (z i m) }))
+            (λ o. let at = o .1 in
+            let before : (i : ℕ) → i < o .0 → AllHold (recordTests G t i) = λ i m. record-passed (omega (arith, at .within)) (at .before i m) in
+            ⊎-elim
+            (λ h. absurd (at .other (holding-number h)))
+            (λ f. inr (f .0, o .0, by-record (record { setting = s; long = e; before = before }) (at .within) (f .1)))
+            (hold-or-failed (recordTests G t (o .0))))
+            (zeros-or-first (records G) (recordNumber G t))
         | no d ↦ inr (4, 0, by-length s d)
       ])
       (λ f. inr (f .0, 0, by-setting (f .1)))

@@ -11,15 +11,15 @@
 --   run-at           the same run by another count of its steps
 --   run-several, run-breaks   several steps at once, tested by f: they hold, or the first of them that fails
 --   RunPast S i a    a is the answer of the steps before i where they hold, else that of all steps
-use Prim.Native.Nat.{ℕ, _+_, _-_, _≤_, _<_}
-use native.Mathlib.Decide.{ℕ-discrete, decLe}
+use Prim.Native.Nat.{ℕ, _+_, _≤_, _<_}
+use native.Mathlib.Decide.{ℕ-discrete}
 use native.Mathlib.Omega.{arith}
 use mathlib.Core.Logic.{⊎-elim}
 use mathlib.Core.Path.{_≡_, sym, ap, _∙_}
 use mathlib.Core.Bool.{Bool, true, false}
 use Rattle.ticket.specs.declared.Answer.{Answer}
 use Rattle.ticket.specs.Rules.{first, unless, scan}
-use Rattle.ticket.specs.Laws.First.{true-or-false, first-within, first-before, first-at}
+use Rattle.ticket.specs.Laws.First.{joined, true-or-false, first-within, first-before, first-at}
 use Rattle.ticket.specs.Laws.Scans.{scan-none, scan-is}
 
 pub record Steps : Type 0 where
@@ -81,13 +81,8 @@ module _ {S : Steps} {i n k : ℕ} {a : Answer} (run : RunTo S i a) (inside : i 
     (alike : (j : ℕ) → j < n → f j ≡ S .holds (i + j)) (k-is : k ≡ first n f) where
   -- the steps before the first of these that fails
   before-first : (j : ℕ) → j < i + k → S .holds j ≡ true
-  before-first j l =
-      elim (decLe i j) [
-        | yes past ↦
-            let same : i + (j - i) ≡ j = omega arith in
-            rw same at (sym (alike (j - i) (omega (arith, first-within n f))) ∙ first-before n (j - i) f (omega arith))
-        | no early ↦ run .before j (omega arith)
-      ]
+  before-first =
+      joined (λ j. S .holds j ≡ true) (run .before) (λ j l. sym (alike j (omega (arith, first-within n f))) ∙ first-before n f j (omega arith))
 
   pub run-several : {b : Answer} → n ≤ k → b ≡ S .so-far (i + n) → RunPast S (i + n) b
   run-several l e =

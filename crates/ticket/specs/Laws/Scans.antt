@@ -11,17 +11,15 @@
 --   refusal-cong    equal numbers give equal answers
 --   refusal-split   a scan of m + n numbers is a scan of m, then one of the n after them
 use Rattle.ticket.specs.Rules.{first, unless, scan, firstRefusal, after, refusal}
-use Rattle.ticket.specs.Laws.First.{first-none, first-is, first-cong, holds-or-first}
+use Rattle.ticket.specs.Laws.First.{joined, first-none, first-is, first-cong, holds-or-first}
 use Rattle.ticket.specs.declared.Answer.{Answer}
-use Prim.Native.Nat.{ℕ, zero, suc, _+_, _<_}
+use Prim.Native.Nat.{ℕ, _+_, _<_}
 use native.Mathlib.Omega.{arith}
-use native.Mathlib.Decide.{ℕ-discrete}
-use native.Mathlib.Nat.{add-zero, zero-add, suc-add}
 use mathlib.Core.Logic.{_⊎_, inl, inr, ⊎-elim}
 use mathlib.Core.Path.{_≡_, refl, sym, ap, _∙_}
 use mathlib.Core.Bool.{Bool, true, false}
 use borrow.Author.Tests.{eq-eqb, ne-eqb, eqb-true, eqb-false}
-use lib.Dec.{eqb, eqb·suc-suc}
+use lib.Dec.{eqb}
 
 pub scan-none : (n : ℕ) (f : ℕ → Bool) (failed : ℕ → Answer) (passed : Answer) → ((k : ℕ) → k < n → f k ≡ true)
     → scan n f failed passed ≡ passed
@@ -51,14 +49,8 @@ pub zeros-or-first : (n : ℕ) (f : ℕ → ℕ) → ((k : ℕ) → k < n → f 
 zeros-or-first n f =
     ⊎-elim
     (λ h. inl (λ k l. eqb-true (f k) 0 (h k l)))
-    (λ o. inr (
-      o .0,
-      record {
-        within = o .1 .within;
-        before = λ k l. eqb-true (f k) 0 (o .1 .before k l);
-        other = eqb-false (f (o .0)) 0 (o .1 .fails);
-      },
-    ))
+    (λ o. let at = o .1 in
+    inr (o .0, record { within = at .within; before = λ k l. eqb-true (f k) 0 (at .before k l); other = eqb-false (f (o .0)) 0 (at .fails) }))
     (holds-or-first n (λ k. eqb (f k) 0))
 
 pub after-passed : (a b : Answer) → a .number ≡ 0 → after a b ≡ b
@@ -69,46 +61,32 @@ pub after-refused : (a b : Answer) → (a .number ≡ 0 → ⊥) → after a b �
 unfolding after
 after-refused a b d = rw (ne-eqb (a .number) 0 d)
 
--- the first number, then the others
-refusal-first : (start n : ℕ) (f : ℕ → ℕ)
-    → firstRefusal start (suc n) f ≡ after (refusal (f 0) start) (firstRefusal (start + 1) n (λ k. f (suc k)))
-unfolding firstRefusal scan first after
-refusal-first start n f =
-    let k = first n (λ k. eqb (f (suc k)) 0) in
-    let place : start + suc k ≡ start + 1 + k = omega arith in
-    elim (ℕ-discrete (f 0) 0) [
-      | yes z ↦
-          rw (eq-eqb (f 0) 0 z)
-          (ap (λ b. unless b (refusal (f (suc k)) (start + suc k)) (refusal 0 0)) (eqb·suc-suc k n)
-          ∙ ap (λ p. unless (eqb k n) (refusal (f (suc k)) p) (refusal 0 0)) place)
-      | no d ↦
-          refusal-is start (suc n) 0 f (omega arith) (λ k l. absurd (omega arith)) d
-          ∙ rw (add-zero start) (sym (after-refused (refusal (f 0) start) _ d))
-    ]
-
-after-after : (a b c : Answer) → after a (after b c) ≡ after (after a b) c
-after-after a b c =
-    elim (ℕ-discrete (a .number) 0) [
-      | yes z ↦ after-passed a (after b c) z ∙ sym (rw (after-passed a b z))
-      | no d ↦ after-refused a (after b c) d ∙ sym (rw (after-refused a b d) (after-refused a c d))
-    ]
-
 pub refusal-cong : (start n : ℕ) (f g : ℕ → ℕ) → ((k : ℕ) → k < n → f k ≡ g k) → firstRefusal start n f ≡ firstRefusal start n g
-refusal-cong start zero f g h = refusal-none start 0 f (λ k l. absurd (omega arith)) ∙ sym (refusal-none start 0 g (λ k l. absurd (omega arith)))
-refusal-cong start (suc n) f g h =
-    let rest = refusal-cong (start + 1) n (λ k. f (suc k)) (λ k. g (suc k)) (λ k l. h (suc k) (omega arith)) in
-    refusal-first start n f ∙ rw (h 0 (omega arith), rest) (sym (refusal-first start n g))
+refusal-cong start n f g h =
+    ⊎-elim
+    (λ z. refusal-none start n f z ∙ sym (refusal-none start n g (λ k l. sym (h k l) ∙ z k l)))
+    (λ o. let at = o .1 in
+    refusal-is start n (o .0) f (at .within) (at .before) (at .other)
+    ∙ rw (h (o .0) (at .within)) (sym (refusal-is start n (o .0) g (at .within)
+    (λ k l. sym (h k (omega (arith, at .within))) ∙ at .before k l) (λ z. at .other (h (o .0) (at .within) ∙ z)))))
+    (zeros-or-first n f)
 
 pub refusal-split : (start m n : ℕ) (f : ℕ → ℕ)
     → firstRefusal start (m + n) f ≡ after (firstRefusal start m f) (firstRefusal (start + m) n (λ i. f (m + i)))
-refusal-split start zero n f =
-    rw (refusal-none start 0 f (λ k l. absurd (omega arith)), zero-add n, add-zero start)
-    (refusal-cong start n f (λ i. f (0 + i)) (λ i l. ap f (omega arith)) ∙ sym (after-passed (refusal 0 0) _ refl))
-refusal-split start (suc m) n f =
-    let rest = refusal-split (start + 1) m n (λ k. f (suc k)) in
-    let from : start + suc m ≡ start + 1 + m = omega arith in
-    rw (suc-add m n, from, refusal-first start (m + n) f, rest, after-after, ← refusal-first start m f)
-    (ap (after (firstRefusal start (suc m) f)) (refusal-cong (start + 1 + m) n _ _ (λ i l. ap f (omega arith))))
+refusal-split start m n f =
+    ⊎-elim
+    (λ z. rw (refusal-none start m f z, after-passed (refusal 0 0) (firstRefusal (start + m) n (λ i. f (m + i))) refl)
+    (⊎-elim
+    (λ y. refusal-none start (m + n) f (joined (λ k. f k ≡ 0) z y) ∙ sym (refusal-none (start + m) n _ y))
+    (λ o. let i = o .0 in
+    let at = o .1 in
+    refusal-is start (m + n) (m + i) f (omega (arith, at .within)) (joined (λ k. f k ≡ 0) z (at .before)) (at .other)
+    ∙ ap (refusal (f (m + i))) (omega arith) ∙ sym (refusal-is (start + m) n i _ (at .within) (at .before) (at .other)))
+    (zeros-or-first n (λ i. f (m + i)))))
+    (λ o. let at = o .1 in
+    refusal-is start (m + n) (o .0) f (omega (arith, at .within)) (at .before) (at .other)
+    ∙ sym (rw (refusal-is start m (o .0) f (at .within) (at .before) (at .other)) (after-refused _ _ (at .other))))
+    (zeros-or-first m f)
 
 pub scan-by-first : (n : ℕ) (f : ℕ → Bool) (failed : ℕ → Answer) (passed : Answer)
     → scan n f failed passed ≡ unless (eqb (first n f) n) (failed (first n f)) passed

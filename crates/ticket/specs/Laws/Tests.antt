@@ -8,13 +8,17 @@
 --   Numbered a b l     the numbers of the tests are from a to b
 --   failed-within      so is then the number of the first that fails
 --   tests-hold         all hold, where the number is 0 and that of no test is
+--   same-test          two comparisons that say the same are equal
 --   first-holds, rest-hold   the first of several tests that all hold does, and so do the others
-use Prim.Native.Nat.{ℕ, _≤_}
+use Prim.Native.Nat.{ℕ, _≤_, _<_}
+use native.Mathlib.Decide.{decLe}
 use native.Mathlib.Omega.{arith}
 use mathlib.Core.Logic.{_⊎_, inl, inr, ⊎-elim}
-use mathlib.Core.Path.{_≡_, refl}
+use mathlib.Core.Path.{_≡_, refl, sym, _∙_}
 use mathlib.Core.Bool.{true, false}
 use mathlib.Core.List.{List, [], _∷_}
+use borrow.Author.Tests.{le-leb, lt-leb, lt-ltb, le-ltb}
+use lib.Dec.{leb, ltb}
 use Rattle.ticket.specs.Rules.{Test, firstFailed}
 use Rattle.ticket.specs.Laws.First.{true-or-false}
 
@@ -62,3 +66,10 @@ failed-within (T ∷ rest) numbered (later h f) = failed-within rest (numbered .
 pub tests-hold : (low high : ℕ) (l : List Test) → 1 ≤ low → Numbered low high l → firstFailed l ≡ 0 → AllHold l
 tests-hold low high l above numbered e =
     ⊎-elim (λ h. h) (λ f. absurd (omega (arith, failed-within l numbered (f .1), failed-number (f .1)))) (hold-or-failed l)
+
+pub same-test : (a b c d : ℕ) → (a ≤ b → c < d) → (c < d → a ≤ b) → leb a b ≡ ltb c d
+same-test a b c d to from =
+    elim (decLe a b) [
+      | yes h ↦ le-leb a b h ∙ sym (lt-ltb c d (to h))
+      | no h ↦ lt-leb a b (omega arith) ∙ sym (le-ltb c d (elim (decLe d c) [ yes k ↦ k | no k ↦ absurd (h (from (omega arith))) ]))
+    ]

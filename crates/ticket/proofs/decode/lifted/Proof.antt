@@ -6,18 +6,10 @@ use Rattle.ticket.proofs.decode.lifted.Statement.{statement}
 use Rattle.ticket.proofs.decode.lifted.Tie as tie
 
 product : (c : tie.After-struct-known) → c .before .args .quotient .0 * c .before .args .scale ≤ (2 ^ 32 - 1) * (2 ^ 32 - 1)
-product c =
-    let quotient : c .before .args .quotient .0 ≤ 2 ^ 32 - 1 = omega arith in
-    let scale : c .before .args .scale ≤ 2 ^ 32 - 1 = omega arith in
-    mul-le-mul quotient scale
-
-mul-whole : tie.Need-mul-whole
-mul-whole c = omega (arith, product c)
-
-add-whole : tie.Need-add-whole
-add-whole c = omega (arith, product (c .before))
+product c = mul-le-mul {n₂ = 2 ^ 32 - 1} {m₂ = 2 ^ 32 - 1} (omega arith) (omega arith)
 
 pub lifted-spec : {M : Type 1} → statement M
 lifted-spec =
     tie.close
-    (tie.spec (λ c. search needs) mul-whole (λ c. search needs) add-whole (λ c. search needs) (λ c. search needs))
+    (tie.spec (λ c. search needs) (λ c. omega (arith, product c)) (λ c. search needs) (λ c. omega (arith, product (c .before)))
+    (λ c. search needs) (λ c. search needs))

@@ -5,15 +5,12 @@ use Rattle.ticket.specs.Laws.Forms.{first-word, header-formed}
 use Rattle.ticket.proofs.records.formed.Statement.{statement}
 use Rattle.ticket.proofs.records.formed.Tie as tie
 
-abbrev known : tie.After-word2 → tie.After-shared-slice-known
-known c = c .before .before .before .before .before .before .before
-
 returns : tie.Need-returns
 returns c =
-    let records = known c .before .args .records .now in
-    let i = known c .before .args .i in
-    header-formed records i (c .before .word .ensures ∙ first-word records i) (c .word2 .ensures)
-    (λ k. omega (arith, known c .shared-slice-known .given k)) (omega arith) (omega arith) (omega arith)
+    let known = c .before .before .before .before .before .before .before in
+    let a = known .before .args in
+    header-formed _ _ (c .before .word .ensures ∙ first-word (a .records .now) (a .i)) (c .word2 .ensures)
+    (λ k. omega (arith, known .shared-slice-known .given k)) (omega arith) (omega arith) (omega arith)
 
 pub formed-spec : {M : Type 1} → statement M
 formed-spec =

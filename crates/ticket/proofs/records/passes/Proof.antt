@@ -22,20 +22,10 @@ inside : (c : tie.Then1 Inv-loop μ-loop) → let form = start c .args .form in
     c .before .before .loop .row * form .columns + form .columns ≤ form .rows * form .columns
 inside c = row-inside (start c .args .form .columns) (c .if1 .taken)
 
-loop-holds : tie.Need-loop-holds Inv-loop μ-loop
-loop-holds c = (omega arith, omega arith, all-none _)
-
-row-passes-requires : tie.Need-row-passes-requires Inv-loop μ-loop
-row-passes-requires c κs = (omega (arith, inside c), start c .pre .range)
-
-add-start : tie.Need-add-start Inv-loop μ-loop
-add-start c = omega (arith, inside (c .before .before))
-
 loop-again : tie.Need-loop-again Inv-loop μ-loop
 loop-again c =
-    let at = c .before .before .before .before in
-    let a = at .before .before .args in
-    (omega arith, omega arith, rows-passing (a .records .now) (a .form) _ (at .loop .inv .1) (at .loop .inv .2) (c .before .row-passes .ensures))
+    let at = c .before .before .before .before .loop .inv in
+    (omega arith, omega arith, rows-passing _ _ _ (at .1) (at .2) (c .before .row-passes .ensures))
 
 returns : tie.Need-returns Inv-loop μ-loop
 returns c =
@@ -46,5 +36,5 @@ returns c =
 pub passes-spec : {M : Type 1} → statement M
 passes-spec =
     tie.close
-    (tie.spec Inv-loop μ-loop loop-holds row-passes-requires (λ c. omega arith) add-start (λ c. omega arith) (λ c. omega arith)
-    loop-again returns)
+    (tie.spec Inv-loop μ-loop (λ c. (omega arith, omega arith, all-none _)) (λ c κs. (omega (arith, inside c), start c .pre .range))
+    (λ c. omega arith) (λ c. omega (arith, inside (c .before .before))) (λ c. omega arith) (λ c. omega arith) loop-again returns)

@@ -2,7 +2,7 @@ use mathlib.Core.Path.{_≡_, sym, ap, _∙_}
 use borrow.Author.Needs.{needs}
 use Rattle.ticket.specs.Rules.{refusal, settingTests, ticketLength, reading}
 use Rattle.ticket.specs.Laws.Tests.{AllHold}
-use Rattle.ticket.specs.Laws.Limits.{Within, counts, limits-of, setting-holds, clamped-same}
+use Rattle.ticket.specs.Laws.Limits.{counts, limits-of, setting-holds, clamped-same}
 use Rattle.ticket.specs.Laws.Scans.{after-refused}
 use Rattle.ticket.specs.Laws.Refusals.{by-length, refused-reading, records-read}
 use Rattle.ticket.proofs.records.read.Statement.{statement}
@@ -14,11 +14,8 @@ start c = c .before .before .before
 holds : (c : tie.Else1) → AllHold (settingTests (start c .args .setting))
 holds c = setting-holds (start c .args .setting) (sym (c .before .number .ensures) ∙ c .if1 .left)
 
-limits : (c : tie.Else1) → Within (start c .args .setting)
-limits c = limits-of _ (holds c)
-
 long : (c : tie.After-length) → c .length .result ≡ ticketLength (start (c .before) .args .setting)
-long c = let limits = limits (c .before) in c .length .ensures ∙ ap ticketLength (clamped-same (limits .sizes) (limits .numbers))
+long c = let limits = limits-of _ (holds (c .before)) in c .length .ensures ∙ ap ticketLength (clamped-same (limits .sizes) (limits .numbers))
 
 returns : tie.Need-returns
 unfolding reading
@@ -31,7 +28,7 @@ returns-2 c = sym (refused-reading _ _ (by-length (holds (c .before .before)) (�
 
 read-records-requires : tie.Need-read-records-requires
 read-records-requires c κs =
-    let limits = limits (c .before .before) in
+    let limits = limits-of _ (holds (c .before .before)) in
     record { counts = counts (limits .sizes); numbers = limits .numbers; long = c .if2 .left ∙ long (c .before) }
 
 returns-3 : tie.Need-returns-3

@@ -1,9 +1,9 @@
 -- The loop keeps whether the records of the row before this column pass.
 use Prim.Native.Nat.{_+_, _-_, _≤_}
 use native.Mathlib.Omega.{arith}
-use mathlib.Core.Path.{_≡_, ap, _∙_}
+use mathlib.Core.Path.{_≡_, _∙_}
 use Rattle.ticket.specs.Laws.All.{all, all-none, all-next}
-use Rattle.ticket.specs.Laws.Passing.{passingAt, rowPassing}
+use Rattle.ticket.specs.Laws.Passing.{rowPassing}
 use Rattle.ticket.proofs.records.row_passes.Statement.{statement}
 use Rattle.ticket.proofs.records.row_passes.Tie as tie
 
@@ -14,21 +14,10 @@ Inv-loop records form start row ok₀ i₀ column₀ ok i column =
 abbrev μ-loop : tie.MeasureT-loop
 μ-loop records form start row ok₀ i₀ column₀ ok i column = form .columns - column
 
-loop-holds : tie.Need-loop-holds Inv-loop μ-loop
-loop-holds c = (omega arith, omega arith, all-none _)
-
-record-passes-requires : tie.Need-record-passes-requires Inv-loop μ-loop
-record-passes-requires c κs = (omega arith, c .before .before .before .before .pre .1)
-
 loop-again : tie.Need-loop-again Inv-loop μ-loop
 loop-again c =
-    let at = c .before .before .before in
-    let a = at .before .before .args in (
-      omega arith,
-      omega arith,
-      all-next _ (rowPassing (a .records .now) (a .form) (a .start) (a .row)) (at .loop .inv .2)
-          (c .record-passes .ensures ∙ ap (λ k. passingAt (a .records .now) (a .form) k (a .row) (at .loop .column)) (at .loop .inv .1)),
-    )
+    let at = c .before .before .before .loop .inv in
+    (omega arith, omega arith, all-next _ _ (at .2) (c .record-passes .ensures ∙ rw (at .1)))
 
 returns : tie.Need-returns Inv-loop μ-loop
 returns c =
@@ -39,5 +28,6 @@ returns c =
 pub row-passes-spec : {M : Type 1} → statement M
 row-passes-spec =
     tie.close
-    (tie.spec Inv-loop μ-loop loop-holds record-passes-requires (λ c. omega arith) (λ c. omega arith) (λ c. omega arith)
+    (tie.spec Inv-loop μ-loop (λ c. (omega arith, omega arith, all-none _))
+    (λ c κs. (omega arith, c .before .before .before .before .pre .1)) (λ c. omega arith) (λ c. omega arith) (λ c. omega arith)
     loop-again returns)

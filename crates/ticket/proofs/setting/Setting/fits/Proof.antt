@@ -15,18 +15,6 @@ start c = c .before .before .before .before
 lifted : (c : tie.After-lift) → c .lift .result ≡ lift (start c .args .self)
 lifted c = c .lift .ensures ∙ ap lift (clamped-same (start c .pre .0) (start c .pre .1))
 
-mul-reach : tie.Need-mul-reach
-mul-reach c = omega (arith, small (c .before .before))
-
-mul-reach-2 : tie.Need-mul-reach-2
-mul-reach-2 c = omega (arith, small (c .before .before))
-
-add-reach : tie.Need-add-reach
-add-reach c = omega (arith, small (c .before .before .before))
-
-mul-result : tie.Need-mul-result
-mul-result c = omega (arith, lifted c, small (start c))
-
 returns : tie.Need-returns
 unfolding fits
 returns c = rw (lifted (c .before), c .modulus .ensures, lift-double (start (c .before) .pre .1))
@@ -34,5 +22,7 @@ returns c = rw (lifted (c .before), c .modulus .ensures, lift-double (start (c .
 pub fits-spec : {M : Type 1} → statement M
 fits-spec =
     tie.close
-    (tie.spec (λ c. search needs) (λ c. search needs) mul-reach mul-reach-2 (λ c. search needs) add-reach (λ c. search needs)
-    (λ c κs. search needs) mul-result (λ c κs. search needs) (λ c. search needs) returns)
+    (tie.spec (λ c. search needs) (λ c. search needs) (λ c. omega (arith, small (c .before .before)))
+    (λ c. omega (arith, small (c .before .before))) (λ c. search needs) (λ c. omega (arith, small (c .before .before .before)))
+    (λ c. search needs) (λ c κs. search needs) (λ c. omega (arith, lifted c, small (start c))) (λ c κs. search needs)
+    (λ c. search needs) returns)

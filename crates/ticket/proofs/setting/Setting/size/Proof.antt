@@ -1,21 +1,9 @@
 use native.Mathlib.Omega.{arith}
 use mathlib.Core.Path.{sym}
 use borrow.Author.Needs.{needs}
-use Rattle.ticket.specs.Rules.{parts, part}
-use Rattle.ticket.specs.Laws.Layout.{size-claims, size-past}
+use Rattle.ticket.specs.Laws.Layout.{parts-are, size-claims, size-past}
 use Rattle.ticket.proofs.setting.Setting.size.Statement.{statement}
 use Rattle.ticket.proofs.setting.Setting.size.Tie as tie
-
-returns : tie.Need-returns
-unfolding parts part
-returns c = rw (c .before .if1 .taken, c .before .before .clamped .ensures .0)
-
-returns-2 : tie.Need-returns-2
-unfolding parts part
-returns-2 c = rw (c .before .if2 .taken, c .before .before .before .clamped .ensures .0)
-
-returns-3 : tie.Need-returns-3
-returns-3 c = sym (size-past _ (omega arith))
 
 returns-4 : tie.Need-returns-4
 returns-4 c = rw (c .before .before .before .before .clamped .ensures .0) (sym (size-claims _ (omega arith) (omega arith)))
@@ -23,5 +11,7 @@ returns-4 c = rw (c .before .before .before .before .clamped .ensures .0) (sym (
 pub size-spec : {M : Type 1} → statement M
 size-spec =
     tie.close
-    (tie.spec (λ c κs. search needs) (λ c. search needs) returns (λ c. search needs) returns-2 returns-3 (λ c. search needs)
-    returns-4)
+    (tie.spec (λ c κs. search needs) (λ c. search needs)
+    (λ c. rw (c .before .if1 .taken, c .before .before .clamped .ensures .0) (sym (parts-are _ .size-A))) (λ c. search needs)
+    (λ c. rw (c .before .if2 .taken, c .before .before .before .clamped .ensures .0) (sym (parts-are _ .size-B)))
+    (λ c. sym (size-past _ (omega arith))) (λ c. search needs) returns-4)
