@@ -1,7 +1,7 @@
 // The setting: its tests, 1 to 3, and what it says of a ticket. The calls that say this take every setting; of one beyond its
 // limits they say what the limits come to, so that nothing wraps.
 ghost use mathlib.Core.Path.{_≡_};
-ghost use Prim.Native.Nat.{min};
+ghost use Prim.Native.Nat.{_*_, min};
 ghost use Rattle.ticket.specs.Rules.{unless, settingNumber, sizesWithin, numbersWithin, fits, within};
 ghost use Rattle.ticket.specs.Rules.{part, partSize, start, ticketLength, halfRange, lift, sumProducts};
 ghost use Rattle.ticket.specs.Laws.Limits.{Sizes, Numbers, Clamped, clamped};
@@ -142,7 +142,14 @@ impl Setting {
     pub fn lift(self) -> u64
         ensures { λ r. ⌜ r ≡ lift (clamped self) ⌝ }
     {
-        (self.half().0 as u64) * (self.clamped().scale as u64)
+        self.lift_of(self.half())
+    }
+
+    // The same, where half of the quotients' range is there already.
+    pub fn lift_of(self, half: Residue) -> u64
+        ensures { λ r. ⌜ r ≡ half .0 * clamped self .scale ⌝ }
+    {
+        (half.0 as u64) * (self.clamped().scale as u64)
     }
 
     // How many products all sums take.

@@ -64,7 +64,8 @@ fn write_with(
     sums: &mut [u32],
     output: &mut [u8],
 )
-    requires { ⌜ Writable setting (now a) (now b) × (ticketLength setting ≤ length (now output)) × Room setting (length (now line)) (length (now columns)) (length (now sums)) ⌝ }
+    requires { ⌜ Writable setting (now a) (now b) × (ticketLength setting ≤ length (now output))
+        × Room setting (length (now line)) (length (now columns)) (length (now sums)) ⌝ }
     ensures { λ r. ⌜ ClaimsWrote setting (now (a .entry)) (now (b .entry)) (setting .rows) (now (output .entry)) (now (output .exit)) ⌝ }
 {
     let inner = setting.inner as usize;
@@ -94,7 +95,7 @@ fn write_rows(
     ensures { λ r. ⌜ ClaimsWrote setting (now (a .entry)) (now (b .entry)) (setting .rows) (now (output .entry)) (now (output .exit)) ⌝ }
 {
     let half = setting.half();
-    let lift = setting.lift() as u32;
+    let lift = setting.lift_of(half) as u32;
     let height = setting.rows as u8;
     let width = setting.columns as usize;
     narrow_columns(b, setting.inner as usize, width, columns);

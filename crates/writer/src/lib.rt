@@ -43,9 +43,10 @@ pub fn write(setting: Setting, a: &[i32], b: &[i32], output: &mut [u8]) -> Answe
         };
     }
     write_ticket(setting, a, b, output);
+    let place = length as u32;
     Answer {
         number: 0,
-        place: length as u32,
+        place,
         row: 0,
         products: setting.products(),
     }

@@ -17,6 +17,11 @@ begun c = c .before .before .before .before .before .before .before .before .bef
 abbrev claimed : tie.After-start2 → tie.After-write-claims
 claimed c = c .before .before .before .before .before .before .before
 
+write-operand-requires : tie.Need-write-operand-requires
+write-operand-requires c κs =
+    let at = c .before in
+    ready-A (begun at .pre .0) (omega (arith, claimed at .write-claims .ensures .long, begun at .pre .1)) (at .before .start .ensures)
+
 returns : tie.Need-returns
 returns c =
     let A = c .before .before .before .before .before .before in
@@ -30,8 +35,7 @@ write-ticket-spec =
     (tie.spec (λ c κs. search needs) (λ c. omega (arith, limits (c .before .before .before .before .before .before .pre .0) .sizes .rows))
     (λ c. omega (arith, limits (c .before .before .before .before .before .before .before .pre .0) .sizes .inner)) (λ c. search needs) (λ c κs. search needs) (λ c. search needs)
     (λ c κs. search needs) (λ c. search needs) (λ c. search needs)
-    (λ c κs. let at = c .before in
-    ready-A (begun at .pre .0) (omega (arith, claimed at .write-claims .ensures .long, begun at .pre .1)) (at .before .start .ensures))
+    write-operand-requires
     (λ c κs. let A = c .before .before .before in let at = A .before .before in
     ready-B (begun at .pre .0) (omega (arith, A .write-operand .ensures .long, claimed at .write-claims .ensures .long, begun at .pre .1)) (at .start2 .ensures))
     (λ c. search needs) returns)

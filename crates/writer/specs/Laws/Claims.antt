@@ -78,14 +78,14 @@ pub record Lifting (G : Setting) (half lifting : ℕ) : Type 0 where
   pub half-is : half ≡ halfRange G
   pub lift-is : lifting ≡ lift G
 
-pub lifting-of : {G : Setting} {half lifting : ℕ} → Within G → half ≡ halfRange (clamped G) → lifting ≡ lift (clamped G) → Lifting G half lifting
+pub lifting-of : {G : Setting} {half lifting : ℕ} → Within G → half ≡ halfRange (clamped G) → lifting ≡ half * clamped G .scale → Lifting G half lifting
 lifting-of within half-is lift-is =
     let same = clamped-same (within .sizes) (within .numbers) in
     record {
       numbers = within .numbers;
       fitted = within .fitted;
       half-is = half-is ∙ ap halfRange same;
-      lift-is = lift-is ∙ ap lift same;
+      lift-is = (rw half-is at lift-is) ∙ ap lift same;
     }
 
 module _ {G : Setting} {half lifting x : ℕ} (ready : Lifting G half lifting) (sum : ℕ) (x-is : x ≡ (sum + lifting) % 2 ^ 32) where

@@ -15,7 +15,7 @@ use lib.IntN.{ℤ, natAbs}
 use lib.ListN.{length}
 use Rattle.residue.specs.Laws.Modulus.{modulus-below}
 use Rattle.ticket.specs.declared.setting.Setting.{Setting}
-use Rattle.ticket.specs.Rules.{reach, lift}
+use Rattle.ticket.specs.Rules.{reach, halfRange, lift}
 use Rattle.ticket.specs.Laws.Differences.{size-sum-of}
 use Rattle.ticket.specs.Laws.Layout.{parts-are}
 use Rattle.ticket.specs.Laws.Limits.{Within, limits-of, clamped, clamped-same, lift-small}
@@ -30,8 +30,10 @@ module _ {G : Setting} {A B : List ℤ} (w : Writable G A B) where
   pub unclamped : clamped G ≡ G
   unclamped = clamped-same (limits .sizes) (limits .numbers)
 
-  pub lift-fits : {n : ℕ} → n ≡ lift (clamped G) → n < 2 ^ 32
-  lift-fits e = omega (arith, e ∙ ap lift unclamped, lift-small (limits .numbers) (limits .fitted), modulus-below)
+  pub lift-fits : {half n : ℕ} → half ≡ halfRange (clamped G) → n ≡ half * clamped G .scale → n < 2 ^ 32
+  lift-fits {n = n} half-is e =
+      let is : n ≡ lift (clamped G) = rw half-is at e in
+      omega (arith, is ∙ ap lift unclamped, lift-small (limits .numbers) (limits .fitted), modulus-below)
 
   pub long-A : length A ≡ G .rows * G .inner
   long-A = w .long-A ∙ parts-are G .size-A

@@ -27,7 +27,7 @@ use Rattle.algebra.specs.Laws.Fills.{Filled, part-of}
 use Rattle.algebra.specs.Laws.Positions.{row-inside}
 use Rattle.exact.specs.Laws.Matrices.{turnedNumber, RowSums, row-sums-exact}
 use Rattle.ticket.specs.declared.setting.Setting.{Setting}
-use Rattle.ticket.specs.Rules.{mostRows, mostInner, mostColumns, recordBytes, ticketLength, halfRange, lift, start, ofQuotients, ofRemainders}
+use Rattle.ticket.specs.Rules.{mostRows, mostInner, mostColumns, recordBytes, ticketLength, halfRange, start, ofQuotients, ofRemainders}
 use Rattle.ticket.specs.Laws.Differences.{exactSum-is}
 use Rattle.ticket.specs.Laws.Layout.{parts-are, length-is, PartIs, part-quotients, part-remainders}
 use Rattle.ticket.specs.Laws.Limits.{counts, clamped}
@@ -170,7 +170,7 @@ module _ {G : Setting} {A B line columns : List ℤ} {sums before : List ℕ} (r
           early = omega (arith, parts-are G, few, at);
         }
 
-    pub row-ready : {half lifting : ℕ} {now output : List ℕ} → half ≡ halfRange (clamped G) → lifting ≡ lift (clamped G)
+    pub row-ready : {half lifting : ℕ} {now output : List ℕ} → half ≡ halfRange (clamped G) → lifting ≡ half * clamped G .scale
         → length now ≡ length made → length output ≡ length before → RowReady G half lifting now quotients remainders output
     row-ready half-is lift-is long same =
         let claims = row-inside (G .columns) l in

@@ -43,6 +43,9 @@ two c = one (c .before .before .before .before)
 abbrev end : tie.After-slice-known3 Inv-loop μ-loop → tie.In-loop Inv-loop μ-loop
 end c = two (c .before .before .before)
 
+loop-holds : tie.Need-loop-holds Inv-loop μ-loop
+loop-holds c = (omega arith, omega arith, c .before .word .ensures, c .word2 .ensures, row-none)
+
 loop-again : tie.Need-loop-again Inv-loop μ-loop
 loop-again c =
     let first = c .before .before .before .before .before .before in
@@ -67,7 +70,7 @@ pub write-row-spec : {M : Type 1} → statement M
 write-row-spec =
     tie.close
     (tie.spec Inv-loop μ-loop (λ c κs. search needs) (λ c κs. search needs)
-    (λ c. (omega arith, omega arith, c .before .word .ensures, c .word2 .ensures, row-none)) (λ c. omega arith) (λ c. omega arith)
+    loop-holds (λ c. omega arith) (λ c. omega arith)
     (λ c κs. search) (λ c. omega (arith, inside (one c))) (λ c κs. omega (arith, inside (one c))) (λ c. omega (arith, inside (two c)))
     (λ c κs. omega (arith, inside (two c), two c .before .loop .inv)) (λ c. omega (arith, inside (end c))) (λ c. omega (arith, inside (end c))) (λ c. omega (arith, inside (end c)))
     (λ c. omega (arith, end c .loop-test .taken)) loop-again (λ c. c .before .loop .inv .1) returns)

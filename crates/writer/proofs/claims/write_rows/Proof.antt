@@ -22,7 +22,7 @@ abbrev μ-loop : tie.MeasureT-loop
 μ-loop setting a b line₀ columns sums₀ output₀ half lift height width quotients₀ remainders₀ from₀ row₀ line sums output quotients remainders from row =
     setting .rows - row
 
-abbrev lifted : tie.At-loop Inv-loop μ-loop → tie.After-lift Inv-loop μ-loop
+abbrev lifted : tie.At-loop Inv-loop μ-loop → tie.After-lift-of Inv-loop μ-loop
 lifted c = c .before .before .before .before .before .before .before .before .before
 
 abbrev start : tie.At-loop Inv-loop μ-loop → tie.Start Inv-loop μ-loop
@@ -40,7 +40,26 @@ room : (c : tie.In-loop Inv-loop μ-loop) → let at = c .before in let of = sta
 room c = search row-room
 
 cast-lift : tie.Need-cast-lift Inv-loop μ-loop
-cast-lift c = omega (arith, lift-fits (c .before .before .before .before .pre .writable) (c .lift .ensures))
+cast-lift c = omega (arith, lift-fits (c .before .before .before .before .pre .writable) (c .before .half .ensures) (c .lift-of .ensures))
+
+narrow-columns-requires : tie.Need-narrow-columns-requires Inv-loop μ-loop
+narrow-columns-requires c κs =
+    let pre = c .before .before .before .before .before .before .before .before .pre in
+    record { entries = small-B (pre .writable); long = long-B (pre .writable); room = omega (arith, long-B (pre .writable), pre .long-columns) }
+
+loop-holds : tie.Need-loop-holds Inv-loop μ-loop
+loop-holds c = (search rows-begun, rows-none _ _ _)
+
+narrow-requires : tie.Need-narrow-requires Inv-loop μ-loop
+narrow-requires c κs =
+    let inside = room (c .before .before) .in-A in
+    record { entries = small-part _ _ (search small-A) inside; long = part-long _ _ _ inside ∙ omega arith; inside = omega arith }
+
+write-row-requires : tie.Need-write-row-requires Inv-loop μ-loop
+write-row-requires c κs =
+    let at = turn c .before in
+    row-ready (start at .pre) (at .loop .inv .0) (turn c .loop-test .taken) (lifted at .before .half .ensures) (lifted at .lift-of .ensures)
+    (c .before .before .before .before .row-sums .ensures .long) (at .loop .inv .1 .long)
 
 loop-again : tie.Need-loop-again Inv-loop μ-loop
 loop-again c =
@@ -62,18 +81,9 @@ write-rows-spec =
     tie.close
     (tie.spec Inv-loop μ-loop (λ c κs. search needs) (λ c κs. search needs) cast-lift
     (λ c. omega (arith, limits (c .before .before .before .before .before .pre .writable) .sizes .rows)) (λ c. search needs) (λ c. search needs)
-    (λ c κs. record { entries = search small-B; long = search long-B; room = omega (arith, long-B (c .before .before .before .before .before .before .before .before .pre .writable)) })
-    (λ c κs. search needs) (λ c. search needs) (λ c κs. search needs) (λ c. search needs)
-    (λ c. (search rows-begun, rows-none _ _ _))
-    (λ c. omega (arith, room c)) (λ c. omega (arith, room c)) (λ c. omega arith) (λ c. omega arith) (λ c. omega (arith, room c))
-    (λ c κs. record {
-      entries = small-part _ _ (search small-A) (room (c .before .before) .in-A);
-      long = part-long _ _ _ (room (c .before .before) .in-A) ∙ omega arith;
-      inside = omega arith;
-    })
-    (λ c κs. search needs)
-    (λ c κs. let at = turn c .before in row-ready (start at .pre) (at .loop .inv .0) (turn c .loop-test .taken) (lifted at .before .half .ensures) (lifted at .lift .ensures)
-    (c .before .before .before .before .row-sums .ensures .long) (at .loop .inv .1 .long)) (λ c. omega (arith, room (end c))) (λ c. omega (arith, room (end c))) (λ c. omega (arith, room (end c)))
-    (λ c. omega (arith, end c .loop-test .taken)) loop-again
+    narrow-columns-requires (λ c κs. search needs) (λ c. search needs) (λ c κs. search needs) (λ c. search needs) loop-holds
+    (λ c. omega (arith, room c)) (λ c. omega (arith, room c)) (λ c. omega arith) (λ c. omega arith) (λ c. omega (arith, room c)) narrow-requires
+    (λ c κs. search needs) write-row-requires (λ c. omega (arith, room (end c))) (λ c. omega (arith, room (end c)))
+    (λ c. omega (arith, room (end c))) (λ c. omega (arith, end c .loop-test .taken)) loop-again
     (λ c. c .before .loop .inv .0 .long-line ∙ sym (start (c .before) .pre .long-line)) (λ c. search)
     (λ c. c .before .loop .inv .0 .long-sums ∙ sym (start (c .before) .pre .long-sums)) (λ c. c .before .loop .inv .1 .long) returns)

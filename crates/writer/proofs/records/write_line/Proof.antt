@@ -29,6 +29,9 @@ entry c = getD (start (c .before) .args .entries .now) (c .before .loop .column)
 small : (c : tie.In-loop Inv-loop μ-loop) → natAbs (entry c) < 2 ^ 15
 small c = start (c .before) .pre .entries-small .small (c .before .loop .column) (c .loop-test .taken)
 
+loop-holds : tie.Need-loop-holds Inv-loop μ-loop
+loop-holds c = (omega arith, c .word .ensures, wrote-none (λ k a. omega (arith, a .from, a .below)))
+
 loop-again : tie.Need-loop-again Inv-loop μ-loop
 loop-again c =
     let inside = c .before .before .before .before .before .before in
@@ -49,9 +52,10 @@ pub write-line-spec : {M : Type 1} → statement M
 write-line-spec =
     tie.close
     (tie.spec Inv-loop μ-loop (λ c κs. search needs)
-    (λ c. (omega arith, c .word .ensures, wrote-none (λ k a. omega (arith, a .from, a .below)))) (λ c. omega arith) (λ c. omega arith)
+    loop-holds (λ c. omega arith) (λ c. omega arith)
     (λ c κs. rw (narrowed-is (entry (c .before)) (small (c .before))) (small (c .before)))
     (λ c. omega (arith, start (c .before .before .before .before) .pre .room))
-    (λ c κs. let at = c .before .before .before .before in omega (arith, at .loop .inv .2 .long, start at .pre .room, c .before .before .before .loop-test .taken))
+    (λ c κs. let at = c .before .before .before .before in
+    omega (arith, at .loop .inv .2 .long, start at .pre .room, c .before .before .before .loop-test .taken))
     (λ c. omega (arith, start (c .before .before .before .before .before .before .before) .pre .wide)) (λ c. omega arith) (λ c. omega arith)
     loop-again (λ c. c .before .loop .inv .2 .long) returns)
