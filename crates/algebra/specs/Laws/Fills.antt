@@ -3,7 +3,7 @@
 --   Filled d b n f l     l is the list b with its first n elements f 0 to f (n - 1); d stands past the end
 --   filled-none          no element is filled yet
 --   filled-more          one more is
---   filled-cong          the same list, by another function with the same values
+--   filled-all           all are, by another form of their count
 --   filled-same          two lists filled alike are equal
 --   Further d b m n f l  where the list b is filled up to element m, l is b filled up to n: what an inner loop does
 --   further-none, further-more   no element is filled yet, and one more
@@ -47,8 +47,8 @@ module _ {A : Type 0} {d : A} {before : List A} {f : ℕ → A} where
       }
 
   module _ {count : ℕ} {list : List A} (filled : Filled d before count f list) where
-    pub filled-cong : {g : ℕ → A} → ((k : ℕ) → k < count → f k ≡ g k) → Filled d before count g list
-    filled-cong same = record { long = filled .long; each = λ k l. filled .each k l ∙ same k l; rest = filled .rest }
+    pub filled-all : {n : ℕ} → count ≤ n → n ≤ count → Filled d before n f list
+    filled-all {n} least most = let all : count ≡ n = omega arith in rw all at filled
 
     pub filled-same : {other : List A} → Filled d before count f other → list ≡ other
     filled-same {other} again =

@@ -86,7 +86,7 @@ line-ready {i = i} list {x} vector l long =
 
 module _ {G : Setting} {a w x u : List ℕ} {products : ℕ} (ready : RowsReady G a w x u products)
     {τ i : ℕ} {b : Answer} (run : RunTo (rowSteps G a w x u τ products) i b) (l : i < G .rows)
-    {left right : ℕ} (left-is : left ≡ offsetOf (lift (clamped G)) x) (right-is : right ≡ offsetOf (G .bound) u)
+    {right : ℕ} (right-is : right ≡ offsetOf (G .bound) u)
     {r s : List ℕ} (r-is : r ≡ lineAt a (length u) i) (s-is : s ≡ lineAt w (length x) i) where
   -- the products of one row more
   counted : b .products + length x + length u ≡ products + (i + 1) * (length x + length u)
@@ -108,5 +108,6 @@ module _ {G : Setting} {a w x u : List ℕ} {products : ℕ} (ready : RowsReady 
         few = omega (arith, counted, row-inside (length x + length u) l, ready .few);
       })
 
-  pub row-step : {c : Answer} → c ≡ rowAnswer left right r s x u τ i (b .products) → c ≡ step-answer (rowSteps G a w x u τ products) i
-  row-step e = e ∙ rw (left-is, right-is, r-is, s-is, counted)
+  pub row-step : {shift left : ℕ} {c : Answer} → shift ≡ lift (clamped G) → left ≡ offsetOf shift x
+      → c ≡ rowAnswer left right r s x u τ i (b .products) → c ≡ step-answer (rowSteps G a w x u τ products) i
+  row-step shift-is left-is e = e ∙ rw (left-is, shift-is, right-is, r-is, s-is, counted)

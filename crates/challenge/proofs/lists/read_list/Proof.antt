@@ -16,12 +16,6 @@ Inv-loop list count k₀ k = (k ≤ count) × ((i : ℕ) → i < k → getD list
 abbrev μ-loop : tie.MeasureT-loop
 μ-loop list count k₀ k = count - k
 
-returns : tie.Need-returns Inv-loop μ-loop
-returns c = sym (other-length _ _ (c .if1 .taken))
-
-loop-holds : tie.Need-loop-holds Inv-loop μ-loop
-loop-holds c = (omega arith, λ i l. omega arith)
-
 returns-2 : tie.Need-returns-2 Inv-loop μ-loop
 returns-2 c =
     let in-loop = c .before .before .before in
@@ -39,5 +33,6 @@ returns-3 c = sym (all-least _ _ (c .before .before .if1 .left) (λ i l. c .befo
 pub read-list-spec : {M : Type 1} → statement M
 read-list-spec =
     tie.close
-    (tie.spec Inv-loop μ-loop (λ c. omega arith) (λ c. omega arith) returns loop-holds (λ c κs. search needs) (λ c. omega arith)
-    (λ c. omega arith) (λ c. omega arith) returns-2 (λ c. omega arith) (λ c. omega arith) loop-again returns-3)
+    (tie.spec Inv-loop μ-loop (λ c. omega arith) (λ c. omega arith) (λ c. sym (other-length _ _ (c .if1 .taken)))
+    (λ c. (omega arith, λ i l. omega arith)) (λ c κs. search needs) (λ c. omega arith) (λ c. omega arith) (λ c. omega arith)
+    returns-2 (λ c. omega arith) (λ c. omega arith) loop-again returns-3)

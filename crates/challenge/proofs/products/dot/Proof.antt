@@ -16,12 +16,6 @@ abbrev μ-loop : tie.MeasureT-loop
 abbrev start : tie.At-loop Inv-loop μ-loop → tie.Start Inv-loop μ-loop
 start c = c .before .before .before
 
-loop-holds : tie.Need-loop-holds Inv-loop μ-loop
-loop-holds c = (omega arith, reached-none _ _)
-
-cast-sum : tie.Need-cast-sum Inv-loop μ-loop
-cast-sum c = omega (arith, c .shared-slice-known3 .given (c .before .before .loop .i))
-
 mul-sum-3 : tie.Need-mul-sum-3 Inv-loop μ-loop
 mul-sum-3 c =
     let at = c .before .before .before in
@@ -32,11 +26,6 @@ add-sum c =
     let at = c .before .before .before in
     omega (arith, narrow-fits (start at .pre .0) (start at .pre .1) (c .before .before .loop-test .taken) (at .loop .inv .1))
 
-loop-again : tie.Need-loop-again Inv-loop μ-loop
-loop-again c =
-    let at = c .before .before .before in
-    (omega arith, narrow-more (start at .pre .0) (start at .pre .1) (c .before .before .loop-test .taken) (at .loop .inv .1))
-
 returns : tie.Need-returns Inv-loop μ-loop
 unfolding dotWith
 returns c =
@@ -46,6 +35,7 @@ returns c =
 pub dot-spec : {M : Type 1} → statement M
 dot-spec =
     tie.close
-    (tie.spec Inv-loop μ-loop loop-holds (λ c. omega arith) (λ c. omega (arith, start (c .before .before) .pre .0 .long)) cast-sum
-    (λ c. omega arith) (λ c. omega arith) mul-sum-3 add-sum (λ c. omega arith) (λ c. omega arith) loop-again (λ c κs. search needs)
-    returns)
+    (tie.spec Inv-loop μ-loop (λ c. (omega arith, reached-none _ _)) (λ c. omega arith)
+    (λ c. omega (arith, start (c .before .before) .pre .0 .long))
+    (λ c. omega (arith, c .shared-slice-known3 .given (c .before .before .loop .i))) (λ c. omega arith) (λ c. omega arith) mul-sum-3
+    add-sum (λ c. omega arith) (λ c. omega arith) (λ c. (omega arith, search narrow-more)) (λ c κs. search needs) returns)

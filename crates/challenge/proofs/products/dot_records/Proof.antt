@@ -32,9 +32,6 @@ read c =
     let k = of .start + at .loop .r in
     c .value .ensures ∙ rw (slice-long (of .records .now) k (inside (c .before .before)), last-word (of .records .now) k)
 
-loop-holds : tie.Need-loop-holds Inv-loop μ-loop
-loop-holds c = (omega arith, holds-none _ (c .new .ensures))
-
 mul-add-2 : tie.Need-mul-add-2 Inv-loop μ-loop
 mul-add-2 c =
     let at = c .before .before .before .before .before in
@@ -58,7 +55,8 @@ returns c =
 pub dot-records-spec : {M : Type 1} → statement M
 dot-records-spec =
     tie.close
-    (tie.spec Inv-loop μ-loop (λ c κs. search needs) loop-holds (λ c. omega (arith, inside c)) (λ c. omega (arith, inside c))
+    (tie.spec Inv-loop μ-loop (λ c κs. search needs) (λ c. (omega arith, holds-none _ (c .new .ensures)))
     (λ c. omega (arith, inside c)) (λ c. omega (arith, inside c)) (λ c. omega (arith, inside c)) (λ c. omega (arith, inside c))
-    (λ c κs. search needs) (λ c. omega arith) (λ c. omega arith) (λ c. omega arith) mul-add-2 (λ c κs. search needs)
-    (λ c. omega arith) (λ c. omega arith) loop-again (λ c κs. search needs) returns)
+    (λ c. omega (arith, inside c)) (λ c. omega (arith, inside c)) (λ c κs. search needs) (λ c. omega arith) (λ c. omega arith)
+    (λ c. omega arith) mul-add-2 (λ c κs. search needs) (λ c. omega arith) (λ c. omega arith) loop-again (λ c κs. search needs)
+    returns)

@@ -2,7 +2,7 @@
 use Prim.Native.Nat.{_-_, _*_, _^_, _≤_, _<_}
 use native.Mathlib.Omega.{arith}
 use borrow.Author.Needs.{needs}
-use mathlib.Core.Path.{_≡_, refl}
+use mathlib.Core.Path.{_≡_}
 use lib.ListN.{length, getD}
 use Rattle.residue.specs.Laws.Products.{Holds, holds-none, holds-with}
 use Rattle.challenge.specs.Laws.Products.{dotWith, reduced, term-fits, term-more}
@@ -25,17 +25,6 @@ small : (c : tie.After-shared-slice-known3 Inv-loop μ-loop) → let at = c .bef
     getD (start at .args .list .now) (at .loop .c) 0 < 2 ^ 32
 small c = omega (arith, c .shared-slice-known3 .given (c .before .before .loop .c))
 
-loop-holds : tie.Need-loop-holds Inv-loop μ-loop
-loop-holds c = (omega arith, holds-none _ (c .new .ensures))
-
-mul-add-3 : tie.Need-mul-add-3 Inv-loop μ-loop
-mul-add-3 c = record { fits = term-fits (start (c .before .before .before) .pre .vector) (c .before .before .loop-test .taken) (small (c .before)) }
-
-loop-again : tie.Need-loop-again Inv-loop μ-loop
-loop-again c =
-    let vector = start (at c) .pre .vector in
-    (omega arith, term-more vector (c .before .before .before .loop-test .taken) (small (c .before .before)) refl (at c .loop .inv .1) (c .add .ensures))
-
 returns : tie.Need-returns Inv-loop μ-loop
 unfolding dotWith
 returns c =
@@ -47,7 +36,7 @@ returns c =
 pub wide-dot-spec : {M : Type 1} → statement M
 wide-dot-spec =
     tie.close
-    (tie.spec Inv-loop μ-loop (λ c κs. search needs) loop-holds (λ c. omega arith)
+    (tie.spec Inv-loop μ-loop (λ c κs. search needs) (λ c. (omega arith, holds-none _ (c .new .ensures))) (λ c. omega arith)
     (λ c. omega (arith, start (c .before .before) .pre .long)) (λ c. omega (arith, small c)) (λ c. omega arith) (λ c. omega arith)
-    mul-add-3 (λ c κs. search needs) (λ c. omega arith) (λ c. omega arith) loop-again (λ c κs. search needs) (λ c κs. search needs)
-    returns)
+    (λ c. record { fits = search (term-fits, small (c .before)) }) (λ c κs. search needs) (λ c. omega arith) (λ c. omega arith)
+    (λ c. (omega arith, search (term-more, small (c .before .before)))) (λ c κs. search needs) (λ c κs. search needs) returns)

@@ -3,18 +3,8 @@ use Rattle.challenge.specs.Laws.Rows.{row-caught, row-balanced}
 use Rattle.challenge.proofs.rows.check_row.Statement.{statement}
 use Rattle.challenge.proofs.rows.check_row.Tie as tie
 
-returns : tie.Need-returns
-returns c =
-    let made = c .before .before .before in
-    row-caught (made .before .wide-dot .ensures) (made .dot .ensures) _ _ (c .if1 .taken)
-
-returns-2 : tie.Need-returns-2
-returns-2 c =
-    let made = c .before .before .before in
-    row-balanced (made .before .wide-dot .ensures) (made .dot .ensures) _ _ (c .if1 .left)
-
 pub check-row-spec : {M : Type 1} → statement M
 check-row-spec =
     tie.close
     (tie.spec (λ c κs. search needs) (λ c κs. search needs) (λ c. search needs) (λ c. search needs) (λ c. search needs)
-    (λ c. search needs) returns returns-2)
+    (λ c. search needs) (λ c. search row-caught) (λ c. search row-balanced))

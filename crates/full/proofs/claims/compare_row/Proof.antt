@@ -17,21 +17,6 @@ few : (c : tie.After-agreeing) → let G = start c .args .setting in
     (c .agreeing .result ≤ G .columns) × (G .inner * c .agreeing .result ≤ G .inner * G .columns)
 few c = few-agree (start c .pre) refl (summed c .row-sums .ensures) (c .agreeing .ensures)
 
-mul-products : tie.Need-mul-products
-mul-products c = omega (arith, few c)
-
-cast-products : tie.Need-cast-products
-cast-products c = omega (arith, few c)
-
-add-products : tie.Need-add-products
-add-products c = omega (arith, few (c .before))
-
-cast-place : tie.Need-cast-place
-cast-place c = omega (arith, few (c .before .before))
-
-add-made : tie.Need-add-made
-add-made c = omega (arith, few (c .before .before .before))
-
 returns : tie.Need-returns
 returns c =
     let a = c .before .before .before in
@@ -47,5 +32,7 @@ compare-row-spec =
     tie.close
     (tie.spec (λ c. search needs) (λ c. search needs) (λ c. omega arith) (λ c. search needs) (λ c. omega arith) (λ c. omega arith)
     (λ c. search needs) (λ c. search needs) (λ c. omega arith) (λ c κs. search needs) (λ c. search needs) (λ c. search needs)
-    (λ c. search needs) (λ c. search needs) (λ c. omega arith) (λ c κs. search needs) mul-products cast-products add-products
-    (λ c. search needs) cast-place add-made (λ c. search needs) returns (λ c. search needs) returns-2)
+    (λ c. search needs) (λ c. search needs) (λ c. omega arith) (λ c κs. search needs) (λ c. omega (arith, few c))
+    (λ c. omega (arith, few c)) (λ c. omega (arith, few (c .before))) (λ c. search needs)
+    (λ c. omega (arith, few (c .before .before))) (λ c. omega (arith, few (c .before .before .before))) (λ c. search needs) returns
+    (λ c. search needs) returns-2)
