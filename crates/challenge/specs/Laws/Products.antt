@@ -36,7 +36,7 @@ use Rattle.algebra.specs.Rules.{sumℤ}
 use Rattle.algebra.specs.Laws.IntegerSums.{sumℤ-cong}
 use Rattle.algebra.specs.Laws.Positions.{row-inside}
 use Rattle.ticket.specs.Rules.{mostInner, recordBytes, valueAt}
-use Rattle.challenge.specs.Laws.Shifts.{taken-off, shift-off, narrow-term, narrow-sum}
+use Rattle.challenge.specs.Laws.Shifts.{taken-off, shift-off, narrow-term}
 
 abbrev pub terms : List ℕ → ℕ → List ℕ → ℕ → ℕ
 terms bytes start x j = valueAt bytes (start + j) * getD x j 0
@@ -136,8 +136,8 @@ module _ {list x : List ℕ} {offset : ℕ} (ready : DotReady list x) (narrow : 
         narrow-term (narrow .small j l) (ready .vector .below j l),
         omega (
           arith,
-          narrow-sum (j + 1) (λ i. getD list i 0) (λ i. getD x i 0) (λ i m. narrow .small i (omega arith))
-              (λ i m. ready .vector .below i (omega arith)),
+          sum-below (j + 1) (2 ^ 47) (λ i. getD list i 0 * getD x i 0)
+              (λ i m. narrow-term (narrow .small i (omega arith)) (ready .vector .below i (omega arith))),
           sum-more j (λ i. getD list i 0 * getD x i 0),
           ready .vector .short,
           narrow .offset-most,
