@@ -85,12 +85,7 @@ size-negation (negsuc n) = refl
 
 pub size-sum : (x y : ℤ) → natAbs (x +ℤ y) ≤ natAbs x + natAbs y
 size-sum x y =
-    omega (
-      arith,
-      size-of-difference (x +ℤ y) (positive x + positive y) (negative x + negative y) (parts-sum x y),
-      size-of-parts x,
-      size-of-parts y,
-    )
+    omega (arith, size-of-difference (x +ℤ y) (positive x + positive y) _ (parts-sum x y), size-of-parts x, size-of-parts y)
 
 pub size-difference : (x y : ℤ) → natAbs (x -ℤ y) ≤ natAbs x + natAbs y
 size-difference x y = omega (arith, size-sum x (negℤ y), size-negation y)

@@ -16,7 +16,7 @@
 --   RecordsReady b a x   the records of b from a on can be multiplied with x
 --   DotReady l x      so can the numbers of l
 --   NarrowFactors l x o  these are below 2^16, and o is small
---   narrow-fits, narrow-more   then the sum of o and the products fits 64 bits, and one product more is added
+--   narrow-product, narrow-total, narrow-more   then each product, and the sum of o and the products, fits 64 bits, and one more is added
 --   ProductReady b m x   b has m rows of records for x
 --   records-ready     then each row can be multiplied
 --   rowsTimes b x k   row k of b times x
@@ -29,7 +29,7 @@ use lib.IntN.{ℤ, pos, _+ℤ_, _*ℤ_}
 use lib.ListN.{length, getD}
 use Rattle.residue.specs.Rules.{modulus, leastResidue, sum, WithNumber}
 use Rattle.residue.specs.Laws.Modulus.{modulus-below, modulus-positive}
-use Rattle.residue.specs.Laws.Products.{product-below, Holds, holds-more}
+use Rattle.residue.specs.Laws.Products.{product-below, HoldsSum, holds-more}
 use Rattle.residue.specs.Laws.Residues.{residue-of-natural}
 use Rattle.residue.specs.Laws.Sums.{sum-none, sum-more, sum-below}
 use Rattle.algebra.specs.Rules.{sumℤ}
@@ -99,7 +99,7 @@ module _ {x : List ℕ} (vector : ResidueVector x) {j : ℕ} (l : j < length x) 
   word-is : getD x j 0 % 2 ^ 32 ≡ getD x j 0
   word-is = mod-eq-of-lt (omega (arith, vector .below j l, modulus-below))
 
-  pub total-fits : {s : ℕ} → Reached 0 (λ i. getD x i 0) j s → s + getD x j 0 < 2 ^ 40
+  pub total-fits : {s : ℕ} → Reached 0 (λ i. getD x i 0) j s → s + getD x j 0 < 2 ^ 64
   total-fits reached =
       omega (
         arith,
@@ -112,8 +112,8 @@ module _ {x : List ℕ} (vector : ResidueVector x) {j : ℕ} (l : j < length x) 
     pub term-fits : v * (getD x j 0 % 2 ^ 32) < 2 ^ 64
     term-fits = product-below 32 small (mod-lt (getD x j 0) (omega arith))
 
-    pub term-more : {f : ℕ → ℕ} {low high low' high' : ℕ} → f j ≡ v * getD x j 0 → Holds j f low high
-        → WithNumber low high (v * (getD x j 0 % 2 ^ 32)) low' high' → Holds (j + 1) f low' high'
+    pub term-more : {f : ℕ → ℕ} {low high low' high' : ℕ} → f j ≡ v * getD x j 0 → HoldsSum j f low high
+        → WithNumber low high (v * (getD x j 0 % 2 ^ 32)) low' high' → HoldsSum (j + 1) f low' high'
     term-more term = holds-more (omega (arith, vector .short)) term-fits (term ∙ ap (λ n. v * n) (sym word-is))
 
 pub record RecordsReady (bytes : List ℕ) (start : ℕ) (x : List ℕ) : Type 0 where
@@ -130,19 +130,19 @@ pub record NarrowFactors (list x : List ℕ) (offset : ℕ) : Type 0 where
 
 module _ {list x : List ℕ} {offset : ℕ} (ready : DotReady list x) (narrow : NarrowFactors list x offset)
     {j s : ℕ} (l : j < length x) (reached : Reached offset (λ i. getD list i 0 * getD x i 0) j s) where
-  pub narrow-fits : (getD list j 0 * (getD x j 0 % 2 ^ 32) ≤ 2 ^ 47) × (s + getD list j 0 * (getD x j 0 % 2 ^ 32) < 2 ^ 63)
-  narrow-fits =
-      rw (word-is (ready .vector) l) (
-        narrow-term (narrow .small j l) (ready .vector .below j l),
-        omega (
-          arith,
-          sum-below (j + 1) (2 ^ 47) (λ i. getD list i 0 * getD x i 0)
-              (λ i m. narrow-term (narrow .small i (omega arith)) (ready .vector .below i (omega arith))),
-          sum-more j (λ i. getD list i 0 * getD x i 0),
-          ready .vector .short,
-          narrow .offset-most,
-        ),
-      )
+  pub narrow-product : getD list j 0 * (getD x j 0 % 2 ^ 32) < 2 ^ 64
+  narrow-product = rw (word-is (ready .vector) l) (omega (arith, narrow-term (narrow .small j l) (ready .vector .below j l)))
+
+  pub narrow-total : s + getD list j 0 * (getD x j 0 % 2 ^ 32) < 2 ^ 64
+  narrow-total =
+      rw (word-is (ready .vector) l) (omega (
+        arith,
+        sum-below (j + 1) (2 ^ 47) (λ i. getD list i 0 * getD x i 0)
+            (λ i m. narrow-term (narrow .small i (omega arith)) (ready .vector .below i (omega arith))),
+        sum-more j (λ i. getD list i 0 * getD x i 0),
+        ready .vector .short,
+        narrow .offset-most,
+      ))
 
   pub narrow-more : Reached offset (λ i. getD list i 0 * getD x i 0) (j + 1) (s + getD list j 0 * (getD x j 0 % 2 ^ 32))
   narrow-more = reached-more offset (λ i. getD list i 0 * getD x i 0) reached (ap (λ n. getD list j 0 * n) (word-is (ready .vector) l))

@@ -20,7 +20,7 @@ use native.Mathlib.Nat.{suc-mul, eq-zero-or-pos, lt-of-not-le, mod-lt, mod-eq-of
 use native.Mathlib.Decide.{decLe}
 use native.Mathlib.Omega.{arith}
 use mathlib.Core.Path.{_≡_, refl, sym, ap, _∙_}
-use mathlib.Core.Logic.{_↔_, _⊎_, inl, inr, ⊎-elim}
+use mathlib.Core.Logic.{_↔_, _⊎_, ⊎-elim}
 use borrow.Author.Tests.{le-leb, lt-leb}
 use lib.IntN.{ℤ, pos, negsuc, natAbs, _+ℤ_, _-ℤ_, _*ℤ_}
 use Rattle.residue.specs.Rules.{leastResidue, signedEntry}
@@ -42,9 +42,6 @@ product-differs : (x y u v w z r s c d h j : ℕ) → x + (u * z + v * w) ≡ u 
     → x + (r * j + c * j + d * s + d * h) ≡ r * s + y + (r * h + c * s + c * h + d * j)
 product-differs x y u v w z r s c d h j e f g =
     omega (arith, ap (λ n. n * w) f, ap (λ n. n * z) f, ap (λ n. n * r) g, ap (λ n. n * c) g, ap (λ n. n * d) g)
-
-low-or-high : (r h : ℕ) → (r ≤ h) ⊎ (h < r)
-low-or-high r h = elim (decLe r h) [ yes low ↦ inl low | no high ↦ inr (lt-of-not-le high) ]
 
 -- a number below p that is 0 modulo p when taken from p is 0
 complement-zero : (p r : ℕ) → r < p → (p - r) % p ≡ 0 → r ≡ 0
@@ -166,10 +163,11 @@ module _ (p : ℕ) (above : 0 < p) where
 
   pub residue-of-entry : (r : ℕ) → r < p → leastResidue p (signedEntry p r) ≡ r
   residue-of-entry r h =
-      ⊎-elim (λ low. ap (leastResidue p) (entry-low r low) ∙ residue-of-residue r h)
-      (λ (high : (p - 1) / 2 < r). ap (leastResidue p) (entry-high r high h)
-      ∙ residue-by (negsuc (p - suc r)) r 1 0 (omega arith) ∙ mod-eq-of-lt h)
-      (low-or-high r ((p - 1) / 2))
+      elim (decLe r ((p - 1) / 2)) [
+        | yes low ↦ ap (leastResidue p) (entry-low r low) ∙ residue-of-residue r h
+        | no high ↦
+            ap (leastResidue p) (entry-high r (lt-of-not-le high) h) ∙ residue-by (negsuc (p - suc r)) r 1 0 (omega arith) ∙ mod-eq-of-lt h
+      ]
 
   pub entry-of-residue : (z : ℤ) → natAbs z ≤ (p - 1) / 2 → signedEntry p (leastResidue p z) ≡ z
   unfolding leastResidue
@@ -184,5 +182,7 @@ module _ (p : ℕ) (above : 0 < p) where
 
   pub entry-small : (r : ℕ) → r < p → p % 2 ≡ 1 → natAbs (signedEntry p r) ≤ (p - 1) / 2
   entry-small r h odd =
-      ⊎-elim (λ low. rw (entry-low r low) low) (λ (high : (p - 1) / 2 < r). rw (entry-high r high h) (omega arith))
-      (low-or-high r ((p - 1) / 2))
+      elim (decLe r ((p - 1) / 2)) [
+        | yes low ↦ rw (entry-low r low) low
+        | no high ↦ let l = lt-of-not-le high in rw (entry-high r l h) (omega arith)
+      ]

@@ -25,9 +25,6 @@ made c =
     offset-made (of .shift) _ (λ i. getD (of .vector .now) i 0) (c .before .modulus .ensures) (at .loop .inv .1)
     (at .loop .inv .0) (c .before .before .loop-test .left) (c .reduce .ensures)
 
-add-sum : tie.Need-add-sum Inv-loop μ-loop
-add-sum c = omega (arith, total-fits (start (c .before .before) .pre .0) (c .before .loop-test .taken) (c .before .before .loop .inv .1))
-
 mul-result : tie.Need-mul-result Inv-loop μ-loop
 mul-result c =
     let of = start (c .before .before .before .before) .args in
@@ -36,6 +33,7 @@ mul-result c =
 pub offset-spec : {M : Type 1} → statement M
 offset-spec =
     tie.close
-    (tie.spec Inv-loop μ-loop (λ c. (omega arith, reached-none 0 _)) (λ c. omega arith) (λ c. omega arith) add-sum (λ c. omega arith)
-    (λ c. omega arith) (λ c. (omega arith, search reached-more)) (λ c κs. search needs) (λ c. omega arith) (λ c. omega arith)
-    (λ c κs. search needs) (λ c. omega arith) mul-result (λ c. made (c .before)))
+    (tie.spec Inv-loop μ-loop (λ c. (omega arith, reached-none 0 _)) (λ c. omega arith) (λ c. omega arith)
+    (λ c. record { fits = search total-fits }) (λ c. omega arith) (λ c. omega arith) (λ c. (omega arith, search reached-more))
+    (λ c κs. search needs) (λ c. omega arith) (λ c. omega arith) (λ c κs. search needs) (λ c. omega arith) mul-result
+    (λ c. made (c .before)))

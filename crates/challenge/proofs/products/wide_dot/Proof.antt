@@ -4,13 +4,13 @@ use native.Mathlib.Omega.{arith}
 use borrow.Author.Needs.{needs}
 use mathlib.Core.Path.{_≡_}
 use lib.ListN.{length, getD}
-use Rattle.residue.specs.Laws.Products.{Holds, holds-none, holds-with}
+use Rattle.residue.specs.Laws.Products.{HoldsSum, holds-none, holds-with}
 use Rattle.challenge.specs.Laws.Products.{dotWith, reduced, term-fits, term-more}
 use Rattle.challenge.proofs.products.wide_dot.Statement.{statement}
 use Rattle.challenge.proofs.products.wide_dot.Tie as tie
 
 abbrev Inv-loop : tie.InvT-loop
-Inv-loop list vector offset sum₀ c₀ sum c = (c ≤ length vector) × Holds c (λ i. getD list i 0 * getD vector i 0) (sum .low) (sum .high)
+Inv-loop list vector offset sum₀ c₀ sum c = (c ≤ length vector) × HoldsSum c (λ i. getD list i 0 * getD vector i 0) (sum .low) (sum .high)
 
 abbrev μ-loop : tie.MeasureT-loop
 μ-loop list vector offset sum₀ c₀ sum c = length vector - c
