@@ -10,7 +10,8 @@
 --   Reached o f n s   s is o plus the sum of the first n values of f
 --   reached-none, reached-more, reached-all   no value is added yet, one more, and all
 --   reduced           the least residue of a number by another form of that
---   offset-made       an offset as the code makes it
+--   offset-made, offset-fits   an offset as the code makes it; it fits 64 bits
+--   held-all, held-with   the sum that two words hold, when all values are added; with a last number
 --   total-fits        the sum of a vector fits 64 bits
 --   term-fits, term-more   so does its product with a 32-bit number, and one such product more is added in two words
 --   RecordsReady b a x   the records of b from a on can be multiplied with x
@@ -29,7 +30,7 @@ use lib.IntN.{ℤ, pos, _+ℤ_, _*ℤ_}
 use lib.ListN.{length, getD}
 use Rattle.residue.specs.Rules.{modulus, leastResidue, sum, WithNumber}
 use Rattle.residue.specs.Laws.Modulus.{modulus-below, modulus-positive}
-use Rattle.residue.specs.Laws.Products.{product-below, HoldsSum, holds-more}
+use Rattle.residue.specs.Laws.Products.{product-below, HoldsSum, holds-more, holds-exact, holds-with}
 use Rattle.residue.specs.Laws.Residues.{residue-of-natural}
 use Rattle.residue.specs.Laws.Sums.{sum-none, sum-more, sum-below}
 use Rattle.algebra.specs.Rules.{sumℤ}
@@ -87,11 +88,26 @@ reached-all offset f n {k} reached l m =
 pub reduced : {r s t : ℕ} → r ≡ leastResidue modulus (pos s) → s ≡ t → r ≡ t % modulus
 reduced {s = s} e same = e ∙ residue-of-natural modulus modulus-positive s ∙ ap (λ n. n % modulus) same
 
-pub offset-made : (shift n : ℕ) (x : ℕ → ℕ) {p k total r : ℕ} → p ≡ modulus → Reached 0 x k total → k ≤ n → n ≤ k
-    → r ≡ leastResidue modulus (pos total) → (p - shift) * r ≡ taken-off modulus shift n x
-unfolding taken-off
-offset-made shift n x {r = r} p-is reached l m e =
-    ap (λ q. (q - shift) * r) p-is ∙ ap (λ q. (modulus - shift) * q) (reduced e (reached-all 0 x n reached l m ∙ omega arith))
+module _ (shift n : ℕ) (x : ℕ → ℕ) {p k total r : ℕ} (p-is : p ≡ modulus) (reached : Reached 0 x k total) (l : k ≤ n) (m : n ≤ k)
+    (r-is : r ≡ leastResidue modulus (pos total)) where
+  pub offset-made : (p - shift) * r ≡ taken-off modulus shift n x
+  unfolding taken-off
+  offset-made =
+      ap (λ q. (q - shift) * r) p-is ∙ ap (λ q. (modulus - shift) * q) (reduced r-is (reached-all 0 x n reached l m ∙ omega arith))
+
+  pub offset-fits : (p - shift) * r < 2 ^ 64
+  offset-fits = rw offset-made (omega (arith, offset-small shift n x))
+
+-- two words that hold all values, and with a last number added
+
+module _ {f : ℕ → ℕ} {n k low high : ℕ} (held : HoldsSum k f low high) (l : k ≤ n) (m : n ≤ k) where
+  pub held-all : low + 2 ^ 31 * high ≡ sum n f
+  held-all = let all : k ≡ n = omega arith in rw all at (holds-exact held)
+
+  pub held-with : {o low' high' : ℕ} → n ≤ mostInner → o < 2 ^ 64 → WithNumber low high o low' high' → low' + 2 ^ 31 * high' ≡ o + sum n f
+  held-with few fits added =
+      let all : k ≡ n = omega arith in
+      omega (arith, rw all at (holds-with (omega arith) fits held added))
 
 -- sums of products in two words, of 64 bits, and in one
 

@@ -4,10 +4,10 @@ use native.Mathlib.Omega.{arith}
 use borrow.Author.Needs.{needs}
 use mathlib.Core.Path.{_≡_}
 use lib.ListN.{length, getD}
-use Rattle.residue.specs.Laws.Products.{HoldsSum, holds-none, holds-exact}
+use Rattle.residue.specs.Laws.Products.{HoldsSum, holds-none}
 use Rattle.ticket.specs.Rules.{recordBytes}
 use Rattle.ticket.specs.Laws.Forms.{slice-long, last-word}
-use Rattle.challenge.specs.Laws.Products.{terms, dotOf, reduced, term-fits, term-more}
+use Rattle.challenge.specs.Laws.Products.{terms, dotOf, reduced, term-fits, term-more, held-all}
 use Rattle.challenge.proofs.products.dot_records.Statement.{statement}
 use Rattle.challenge.proofs.products.dot_records.Tie as tie
 
@@ -32,14 +32,8 @@ term c =
     let k = of .start + at .loop .r in
     rw (c .value .ensures, slice-long (of .records .now) k (inside (c .before .before)), last-word (of .records .now) k)
 
-returns : tie.Need-returns Inv-loop μ-loop
-unfolding dotOf
-returns c =
-    let at = c .before .before in
-    let all : at .loop .r ≡ length (start at .args .vector .now) = omega arith in
-    reduced (c .residue .ensures) (rw all at (holds-exact (at .loop .inv .1)))
-
 pub dot-records-spec : {M : Type 1} → statement M
+unfolding dotOf
 dot-records-spec =
     tie.close
     (tie.spec Inv-loop μ-loop (λ c κs. search needs) (λ c. (omega arith, holds-none _ (c .new .ensures)))
@@ -47,4 +41,4 @@ dot-records-spec =
     (λ c. omega (arith, inside c)) (λ c. omega (arith, inside c)) (λ c κs. search needs) (λ c. omega arith) (λ c. omega arith)
     (λ c. omega arith) (λ c. record { fits = search (term-fits, arith) }) (λ c κs. search needs) (λ c. omega arith)
     (λ c. omega arith) (λ c. (omega arith, search (term-more, arith, term (c .before .before .before)))) (λ c κs. search needs)
-    returns)
+    (λ c. search (reduced, held-all)))
