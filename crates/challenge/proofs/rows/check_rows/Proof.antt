@@ -26,10 +26,18 @@ step : (c : tie.After-check-row Inv-loop μ-loop) → let of = start (at c) .arg
     ≡ step-answer (rowSteps (of .setting) (of .a .now) (of .w .now) (of .x .now) (of .u .now) (of .t) (of .products)) (at c .loop .row)
 step c = search row-step
 
+returns : tie.Need-returns Inv-loop μ-loop
+returns c = search (run-stopped, step (c .before .before))
+
+loop-again : tie.Need-loop-again Inv-loop μ-loop
+loop-again c = search (run-next, step (c .before .before))
+
+returns-2 : tie.Need-returns-2 Inv-loop μ-loop
+returns-2 c = search run-ended
+
 pub check-rows-spec : {M : Type 1} → statement M
 check-rows-spec =
     tie.close
     (tie.spec Inv-loop μ-loop (λ c κs. search needs) (λ c κs. (search, rw (c .lift .ensures) (search))) (λ c. omega arith)
     (λ c κs. search) (λ c. run-none (ap (answer 0 0 0) (omega arith))) (λ c κs. search line-inside) (λ c κs. search line-inside)
-    (λ c κs. search row-sides) (λ c. search (run-stopped, step (c .before .before))) (λ c. omega arith) (λ c. omega arith)
-    (λ c. search (run-next, step (c .before .before))) (λ c. search run-ended))
+    (λ c κs. search row-sides) returns (λ c. omega arith) (λ c. omega arith) loop-again returns-2)

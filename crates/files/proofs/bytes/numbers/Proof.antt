@@ -16,9 +16,12 @@ abbrev μ-loop : tie.MeasureT-loop
 returns : tie.Need-returns Inv-loop μ-loop
 returns c = let filled = c .before .loop .inv .1 in record { long = filled .long; each = λ k l. filled .each k (omega arith) }
 
+loop-holds : tie.Need-loop-holds Inv-loop μ-loop
+loop-holds c = (omega arith, filled-none)
+
 pub numbers-spec : {M : Type 1} → statement M
 numbers-spec =
     tie.close
-    (tie.spec Inv-loop μ-loop (λ c. (omega arith, filled-none)) (λ c. omega arith) (λ c κs. omega arith) (λ c. omega arith)
+    (tie.spec Inv-loop μ-loop loop-holds (λ c. omega arith) (λ c κs. omega arith) (λ c. omega arith)
     (λ c. omega (arith, c .before .before .loop .inv .1 .long)) (λ c. omega arith) (λ c. omega arith)
     (λ c. (omega arith, filled-more (omega arith) (c .before .before .loop .inv .1) (c .word-at .ensures))) returns)

@@ -16,6 +16,12 @@ few : (c : tie.After-agreeing) → let G = start c .args .setting in
     (c .agreeing .result ≤ G .columns) × (G .inner * c .agreeing .result ≤ G .inner * G .columns)
 few c = few-agree (summed c .row-sums .ensures) (start c .pre) (c .agreeing .ensures)
 
+returns : tie.Need-returns
+returns c = search row-untrue
+
+returns-2 : tie.Need-returns-2
+returns-2 c = search row-true
+
 pub compare-row-spec : {M : Type 1} → statement M
 compare-row-spec =
     tie.close
@@ -23,5 +29,5 @@ compare-row-spec =
     (λ c. search needs) (λ c. search needs) (λ c. omega arith) (λ c κs. search needs) (λ c. search needs) (λ c. search needs)
     (λ c. search needs) (λ c. search needs) (λ c. omega arith) (λ c κs. search needs) (λ c. omega (arith, few c))
     (λ c. omega (arith, few c)) (λ c. omega (arith, few (c .before))) (λ c. search needs)
-    (λ c. omega (arith, few (c .before .before))) (λ c. omega (arith, few (c .before .before .before))) (λ c. search needs)
-    (λ c. search row-untrue) (λ c. search needs) (λ c. search row-true))
+    (λ c. omega (arith, few (c .before .before))) (λ c. omega (arith, few (c .before .before .before))) (λ c. search needs) returns
+    (λ c. search needs) returns-2)
