@@ -17,7 +17,8 @@
 --   RecordsReady b a x   the records of b from a on can be multiplied with x
 --   DotReady l x      so can the numbers of l
 --   NarrowFactors l x o  these are below 2^16, and o is small
---   narrow-product, narrow-total, narrow-more   then each product, and the sum of o and the products, fits 64 bits, and one more is added
+--   narrow-fits, narrow-more   then the sum of o and the products fits 64 bits, and one product more is added
+--   narrow-product, narrow-total   the same of the product and of the sum, as the code asks for it
 --   ProductReady b m x   b has m rows of records for x
 --   records-ready     then each row can be multiplied
 --   rowsTimes b x k   row k of b times x
@@ -146,19 +147,25 @@ pub record NarrowFactors (list x : List ℕ) (offset : ℕ) : Type 0 where
 
 module _ {list x : List ℕ} {offset : ℕ} (ready : DotReady list x) (narrow : NarrowFactors list x offset)
     {j s : ℕ} (l : j < length x) (reached : Reached offset (λ i. getD list i 0 * getD x i 0) j s) where
+  pub narrow-fits : (getD list j 0 * (getD x j 0 % 2 ^ 32) ≤ 2 ^ 47) × (s + getD list j 0 * (getD x j 0 % 2 ^ 32) < 2 ^ 63)
+  narrow-fits =
+      rw (word-is (ready .vector) l) (
+        narrow-term (narrow .small j l) (ready .vector .below j l),
+        omega (
+          arith,
+          sum-below (j + 1) (2 ^ 47) (λ i. getD list i 0 * getD x i 0)
+              (λ i m. narrow-term (narrow .small i (omega arith)) (ready .vector .below i (omega arith))),
+          sum-more j (λ i. getD list i 0 * getD x i 0),
+          ready .vector .short,
+          narrow .offset-most,
+        ),
+      )
+
   pub narrow-product : getD list j 0 * (getD x j 0 % 2 ^ 32) < 2 ^ 64
-  narrow-product = rw (word-is (ready .vector) l) (omega (arith, narrow-term (narrow .small j l) (ready .vector .below j l)))
+  narrow-product = omega (arith, narrow-fits)
 
   pub narrow-total : s + getD list j 0 * (getD x j 0 % 2 ^ 32) < 2 ^ 64
-  narrow-total =
-      rw (word-is (ready .vector) l) (omega (
-        arith,
-        sum-below (j + 1) (2 ^ 47) (λ i. getD list i 0 * getD x i 0)
-            (λ i m. narrow-term (narrow .small i (omega arith)) (ready .vector .below i (omega arith))),
-        sum-more j (λ i. getD list i 0 * getD x i 0),
-        ready .vector .short,
-        narrow .offset-most,
-      ))
+  narrow-total = omega (arith, narrow-fits)
 
   pub narrow-more : Reached offset (λ i. getD list i 0 * getD x i 0) (j + 1) (s + getD list j 0 * (getD x j 0 % 2 ^ 32))
   narrow-more = reached-more offset (λ i. getD list i 0 * getD x i 0) reached (ap (λ n. getD list j 0 * n) (word-is (ready .vector) l))

@@ -22,10 +22,13 @@ returns c =
     let at = checked .before .before .before .before .before in
     run-stopped (at .loop .inv .1) (checked .before .before .before .if1 .taken) (checked .check-vector .ensures) (c .if2 .taken) ∙ vectors-answer _ _ _
 
+loop-again : tie.Need-loop-again Inv-loop μ-loop
+loop-again c = (search needs, search run-next)
+
 pub check-vectors-spec : {M : Type 1} → statement M
 check-vectors-spec =
     tie.close
     (tie.spec Inv-loop μ-loop (λ c. (search, run-none (ap (answer 0 0 0) (omega arith))))
     (λ c κs. (search vector-ready, search, search)) (λ c. search needs) (λ c. search needs) returns (λ c. omega arith)
-    (λ c. omega arith) (λ c. (search needs, search run-next)) (λ c. search needs) (λ c. search needs)
+    (λ c. omega arith) loop-again (λ c. search needs) (λ c. search needs)
     (λ c. run-ended (c .before .before .loop .inv .1) (c .if1 .left) ∙ vectors-answer _ _ _))
