@@ -5,7 +5,7 @@ ghost use lib.ListN.{length};
 ghost use Rattle.algebra.specs.Laws.Fills.{lineAt};
 ghost use Rattle.ticket.specs.Laws.Runs.{step-answer, steps-answer};
 ghost use Rattle.challenge.specs.Rules.{verdict};
-ghost use Rattle.challenge.specs.Laws.Rows.{rowAnswer, rowSteps, RowsReady, SidesReady};
+ghost use Rattle.challenge.specs.Laws.Rows.{rowAnswer, rowSteps, VectorRowsReady, SidesReady};
 ghost use Rattle.challenge.specs.Laws.Sides.{DecodedTo, RoomFor};
 ghost use Rattle.challenge.specs.Laws.Vectors.{vectorSteps, DecodeReady, ListReady, VectorReady};
 use crate::products::dot;
@@ -139,7 +139,7 @@ fn check_rows(
     t: u32,
     products: u32,
 ) -> Answer
-    requires { ⌜ RowsReady setting (now a) (now w) (now x) (now u) products ⌝ }
+    requires { ⌜ VectorRowsReady setting (now a) (now w) (now x) (now u) products ⌝ }
     ensures { λ r. ⌜ r ≡ steps-answer (rowSteps setting (now (a .entry)) (now (w .entry)) (now (x .entry)) (now (u .entry)) t products) ⌝ }
 {
     let left = offset(x, setting.lift());

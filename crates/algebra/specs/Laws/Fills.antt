@@ -3,10 +3,8 @@
 --   Filled d b n f l     l is the list b with its first n elements f 0 to f (n - 1); d stands past the end
 --   filled-none          no element is filled yet
 --   filled-more          one more is
---   filled-cong          the same list, by another function with the same values
+--   filled-all           all are, by another form of their count
 --   filled-same          two lists filled alike are equal
---   Further d b m n f l  where the list b is filled up to element m, l is b filled up to n: what an inner loop does
---   further-none, further-more   no element is filled yet, and one more
 --   part-of, part-long   the elements of a part of a list, and how many they are
 --   lineAt x n i         line i of lines of n elements each
 --   line-from            it, from where it starts
@@ -47,8 +45,8 @@ module _ {A : Type 0} {d : A} {before : List A} {f : ℕ → A} where
       }
 
   module _ {count : ℕ} {list : List A} (filled : Filled d before count f list) where
-    pub filled-cong : {g : ℕ → A} → ((k : ℕ) → k < count → f k ≡ g k) → Filled d before count g list
-    filled-cong same = record { long = filled .long; each = λ k l. filled .each k l ∙ same k l; rest = filled .rest }
+    pub filled-all : {n : ℕ} → count ≤ n → n ≤ count → Filled d before n f list
+    filled-all {n} least most = let all : count ≡ n = omega arith in rw all at filled
 
     pub filled-same : {other : List A} → Filled d before count f other → list ≡ other
     filled-same {other} again =
@@ -57,22 +55,6 @@ module _ {A : Type 0} {d : A} {before : List A} {f : ℕ → A} where
           | yes l ↦ filled .each k l ∙ sym (again .each k l)
           | no l ↦ filled .rest k (omega arith) ∙ sym (again .rest k (omega arith))
         ])
-
-pub record Further {A : Type 0} (d : A) (before : List A) (m n : ℕ) (f : ℕ → A) (list : List A) : Type 0 where
-  pub long : length list ≡ length before
-  pub filled : {first : List A} → Filled d first m f before → Filled d first n f list
-
-module _ {A : Type 0} {d : A} {before : List A} {f : ℕ → A} {m n : ℕ} where
-  pub further-none : n ≡ m → Further d before m n f before
-  further-none e = record { long = refl; filled = λ filled. rw e filled }
-
-  pub further-more : {k : ℕ} {value : A} {list : List A} → k < length before → Further d before m k f list → value ≡ f k → n ≡ k + 1
-      → Further d before m n f (set list k value)
-  further-more {k} {value} {list} inside further is e =
-      record {
-        long = length-set list k value ∙ further .long;
-        filled = λ filled. rw e (filled-more (omega (arith, filled .long)) (further .filled filled) is);
-      }
 
 pub part-of : {A : Type 0} (x : List A) (start n i : ℕ) (d : A) → i < n
     → getD (take (start + n - start) (drop start x)) i d ≡ getD x (start + i) d

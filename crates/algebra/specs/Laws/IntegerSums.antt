@@ -4,8 +4,7 @@
 --   sumℤ-more            one more value is added at the end
 --   sumℤ-split           m values, then the n after them
 --   sumℤ-cong            equal values have equal sums
---   sumℤ-difference      the sum of f i - g i is the sum of f less the sum of g
---   difference-product   a difference times a natural number
+--   sumℤ-difference      a row of differences times a vector is the one row times it less the other
 --   size-sum             a sum is at most as large as its two parts together
 --   size-difference      and so is a difference
 --   size-product         a product's size is the product of the sizes
@@ -46,33 +45,29 @@ unfolding sumℤ
 sumℤ-cong zero f g h = refl
 sumℤ-cong (suc n) f g h = cc (sumℤ-cong n f g (λ i l. h i (omega arith)), h n (omega arith))
 
-pub sumℤ-difference : (n : ℕ) (f g : ℕ → ℤ) → sumℤ n (λ i. f i -ℤ g i) ≡ sumℤ n f -ℤ sumℤ n g
+pub sumℤ-difference : (n : ℕ) (f g : ℕ → ℤ) (x : ℕ → ℕ)
+    → sumℤ n (λ i. (f i -ℤ g i) *ℤ pos (x i)) ≡ sumℤ n (λ i. f i *ℤ pos (x i)) -ℤ sumℤ n (λ i. g i *ℤ pos (x i))
 unfolding sumℤ
-sumℤ-difference zero f g = refl
-sumℤ-difference (suc n) f g =
-    ap (λ z. z +ℤ (f n -ℤ g n)) (sumℤ-difference n f g)
-    ∙ equal-of-parts (sumℤ n f -ℤ sumℤ n g +ℤ (f n -ℤ g n)) (sumℤ n f +ℤ f n -ℤ (sumℤ n g +ℤ g n))
-    (omega (
-      arith,
-      parts-sum (sumℤ n f -ℤ sumℤ n g) (f n -ℤ g n),
-      parts-difference (sumℤ n f) (sumℤ n g),
-      parts-difference (f n) (g n),
-      parts-difference (sumℤ n f +ℤ f n) (sumℤ n g +ℤ g n),
-      parts-sum (sumℤ n f) (f n),
-      parts-sum (sumℤ n g) (g n),
-    ))
-
-pub difference-product : (x y : ℤ) (n : ℕ) → (x -ℤ y) *ℤ pos n ≡ x *ℤ pos n -ℤ y *ℤ pos n
-difference-product x y n =
-    equal-of-parts ((x -ℤ y) *ℤ pos n) (x *ℤ pos n -ℤ y *ℤ pos n)
-    (omega (
-      arith,
-      parts-product (x -ℤ y) (pos n),
-      ap (λ m. m * n) (parts-difference x y),
-      parts-difference (x *ℤ pos n) (y *ℤ pos n),
-      parts-product x (pos n),
-      parts-product y (pos n),
-    ))
+sumℤ-difference zero f g x = refl
+sumℤ-difference (suc n) f g x =
+    ap (λ z. z +ℤ (f n -ℤ g n) *ℤ pos (x n)) (sumℤ-difference n f g x)
+    ∙ step (sumℤ n (λ i. f i *ℤ pos (x i))) (sumℤ n (λ i. g i *ℤ pos (x i))) (f n) (g n) (x n)
+  where
+    step : (s t a b : ℤ) (k : ℕ) → s -ℤ t +ℤ (a -ℤ b) *ℤ pos k ≡ (s +ℤ a *ℤ pos k) -ℤ (t +ℤ b *ℤ pos k)
+    step s t a b k =
+        equal-of-parts (s -ℤ t +ℤ (a -ℤ b) *ℤ pos k) ((s +ℤ a *ℤ pos k) -ℤ (t +ℤ b *ℤ pos k))
+        (omega (
+          arith,
+          parts-sum (s -ℤ t) ((a -ℤ b) *ℤ pos k),
+          parts-difference s t,
+          parts-product (a -ℤ b) (pos k),
+          ap (λ m. m * k) (parts-difference a b),
+          parts-difference (s +ℤ a *ℤ pos k) (t +ℤ b *ℤ pos k),
+          parts-sum s (a *ℤ pos k),
+          parts-sum t (b *ℤ pos k),
+          parts-product a (pos k),
+          parts-product b (pos k),
+        ))
 
 -- an integer's size is what its two parts come to, and at most what any two numbers come to that it is the difference of
 size-of-parts : (z : ℤ) → natAbs z ≡ positive z + negative z
@@ -90,12 +85,7 @@ size-negation (negsuc n) = refl
 
 pub size-sum : (x y : ℤ) → natAbs (x +ℤ y) ≤ natAbs x + natAbs y
 size-sum x y =
-    omega (
-      arith,
-      size-of-difference (x +ℤ y) (positive x + positive y) (negative x + negative y) (parts-sum x y),
-      size-of-parts x,
-      size-of-parts y,
-    )
+    omega (arith, size-of-difference (x +ℤ y) (positive x + positive y) _ (parts-sum x y), size-of-parts x, size-of-parts y)
 
 pub size-difference : (x y : ℤ) → natAbs (x -ℤ y) ≤ natAbs x + natAbs y
 size-difference x y = omega (arith, size-sum x (negℤ y), size-negation y)

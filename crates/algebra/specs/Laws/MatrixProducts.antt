@@ -17,7 +17,7 @@ use Rattle.residue.specs.Laws.Modulo.{mod-mul-left, mod-mul}
 use Rattle.residue.specs.Laws.Residues.{residue-zero, residue-same}
 use Rattle.residue.specs.Laws.Sums.{sum-cong, sum-scale, sum-swap, sum-mod-cong}
 use Rattle.algebra.specs.Rules.{sumℤ, matrixProduct}
-use Rattle.algebra.specs.Laws.IntegerSums.{sumℤ-cong, sumℤ-bound, sumℤ-difference, difference-product, size-product, residue-products, residue-dot}
+use Rattle.algebra.specs.Laws.IntegerSums.{sumℤ-cong, sumℤ-bound, sumℤ-difference, size-product, residue-products, residue-dot}
 
 pub matrixProduct-is : (m : ℕ) (A B : ℕ → ℕ → ℤ) (i j : ℕ) → matrixProduct m A B i j ≡ sumℤ m (λ k. A i k *ℤ B k j)
 unfolding matrixProduct
@@ -69,18 +69,10 @@ module _ (p : ℕ) (above : 0 < p) where
   pub row-balances : (n : ℕ) (c d : ℕ → ℤ) (x : ℕ → ℕ)
       → (leastResidue p (sumℤ n (λ j. c j *ℤ pos (x j))) ≡ leastResidue p (sumℤ n (λ j. d j *ℤ pos (x j))))
       ↔ (leastResidue p (sumℤ n (λ j. (c j -ℤ d j) *ℤ pos (x j))) ≡ 0)
-  row-balances n c d x = (
-    λ e. ap (leastResidue p) differences ∙ residue-zero p above (C -ℤ D) .1 (residue-same p above C D .0 e),
-    λ z. residue-same p above C D .1 (residue-zero p above (C -ℤ D) .0 (sym (ap (leastResidue p) differences) ∙ z)),
-  )
-    where
-      C : ℤ
-      C = sumℤ n (λ j. c j *ℤ pos (x j))
-
-      D : ℤ
-      D = sumℤ n (λ j. d j *ℤ pos (x j))
-
-      differences : sumℤ n (λ j. (c j -ℤ d j) *ℤ pos (x j)) ≡ C -ℤ D
-      differences =
-          sumℤ-cong n _ _ (λ j l. difference-product (c j) (d j) (x j))
-          ∙ sumℤ-difference n (λ j. c j *ℤ pos (x j)) (λ j. d j *ℤ pos (x j))
+  row-balances n c d x =
+      let C = sumℤ n (λ j. c j *ℤ pos (x j)) in
+      let D = sumℤ n (λ j. d j *ℤ pos (x j)) in
+      let differences = ap (leastResidue p) (sumℤ-difference n c d x) in (
+        λ e. differences ∙ residue-zero p above (C -ℤ D) .1 (residue-same p above C D .0 e),
+        λ z. residue-same p above C D .1 (residue-zero p above (C -ℤ D) .0 (sym differences ∙ z)),
+      )

@@ -3,7 +3,7 @@
 -- whether the zero vector is excluded. A list of s vectors of n entries is one list of s * n numbers: entry k of vector t is
 -- its number t * n + k.
 --
---   Passes            the vector v passes: allowed entries, orthogonal to every row of D modulo p, not zero if that is excluded
+--   VectorPasses            the vector v passes: allowed entries, orthogonal to every row of D modulo p, not zero if that is excluded
 --   Passing           x is a list of s vectors that pass
 --   Wrong             D is not 0 modulo p in row i, column j
 --   wrong-of-small    an entry of D that is not 0 and less than p in size is not 0 modulo p
@@ -12,7 +12,7 @@
 --   passing-count     a list of different passing lists is at most that long
 --   bound-with-zero   the bound for all vectors as one power
 use Prim.Native.Nat.{ℕ, suc, _+_, _-_, _*_, _/_, _%_, _^_, _≤_, _<_}
-use native.Mathlib.Nat.{mod-lt, mod-eq-of-lt, zero-mod, div-add-mod, div-add-mod', div-lt-iff-lt-mul, sub-zero, sub-add-cancel, mul-zero, mul-le-mul-right}
+use native.Mathlib.Nat.{mod-eq-of-lt, zero-mod, div-add-mod, sub-zero, sub-add-cancel, mul-zero, mul-le-mul-right}
 use native.Mathlib.Decide.{ℕ-discrete, decLe}
 use native.Mathlib.Omega.{arith}
 use mathlib.Core.Path.{_≡_, refl, sym, ap, _∙_, subst}
@@ -30,16 +30,17 @@ use Rattle.residue.specs.Laws.Sums.{sum-zero, sum-but-one}
 use Rattle.residue.specs.Laws.Counting.{AtMost, Different, at-most-through, at-most-members, at-most-words, at-most-but-one}
 use Rattle.algebra.specs.Rules.{sumℤ}
 use Rattle.algebra.specs.Laws.IntegerSums.{sumℤ-cong, residue-dot}
+use Rattle.algebra.specs.Laws.Positions.{by-rows}
 use Rattle.algebra.specs.Laws.Vectors.{without, without-apart, without-word, word-of-entries, cut, cut-word, cut-apart}
 
-pub record Passes (p rows n : ℕ) (D : ℕ → ℕ → ℤ) (P : ℕ → Type 0) (nonzero : Bool) (v : ℕ → ℕ) : Type 0 where
+pub record VectorPasses (p rows n : ℕ) (D : ℕ → ℕ → ℤ) (P : ℕ → Type 0) (nonzero : Bool) (v : ℕ → ℕ) : Type 0 where
   pub allowed : (k : ℕ) → k < n → P (v k)
   pub orthogonal : (i : ℕ) → i < rows → leastResidue p (sumℤ n (λ k. D i k *ℤ pos (v k))) ≡ 0
   pub not-zero : nonzero ≡ true → ((k : ℕ) → k < n → v k ≡ 0) → ⊥
 
 pub record Passing (p rows n s : ℕ) (D : ℕ → ℕ → ℤ) (P : ℕ → Type 0) (nonzero : Bool) (x : List ℕ) : Type 0 where
   pub size : length x ≡ s * n
-  pub vectors : (t : ℕ) → t < s → Passes p rows n D P nonzero (λ k. getD x (t * n + k) 0)
+  pub vectors : (t : ℕ) → t < s → VectorPasses p rows n D P nonzero (λ k. getD x (t * n + k) 0)
 
 pub record Wrong (p rows n : ℕ) (D : ℕ → ℕ → ℤ) (i j : ℕ) : Type 0 where
   pub row : i < rows
@@ -73,11 +74,11 @@ cancel-factor p a x y prime other hx hy e =
 
 -- a list of n numbers that passes as a vector
 abbrev Vector : (p rows n : ℕ) → (ℕ → ℕ → ℤ) → (ℕ → Type 0) → Bool → List ℕ → Type 0
-Vector p rows n D P nonzero x = (length x ≡ n) × Passes p rows n D P nonzero (λ k. getD x k 0)
+Vector p rows n D P nonzero x = (length x ≡ n) × VectorPasses p rows n D P nonzero (λ k. getD x k 0)
 
 module _ {p rows n : ℕ} {D : ℕ → ℕ → ℤ} {P : ℕ → Type 0} where
   passes-cong : {nonzero : Bool} {v w : ℕ → ℕ} → ((k : ℕ) → k < n → v k ≡ w k)
-      → Passes p rows n D P nonzero v → Passes p rows n D P nonzero w
+      → VectorPasses p rows n D P nonzero v → VectorPasses p rows n D P nonzero w
   passes-cong same a =
       record {
         allowed = λ k l. subst P (same k l) (a .allowed k l);
@@ -87,7 +88,7 @@ module _ {p rows n : ℕ} {D : ℕ → ℕ → ℤ} {P : ℕ → Type 0} where
         not-zero = λ e z. a .not-zero e (λ k l. same k l ∙ z k l);
       }
 
-  passes-any : {nonzero : Bool} {v : ℕ → ℕ} → Passes p rows n D P nonzero v → Passes p rows n D P false v
+  passes-any : {nonzero : Bool} {v : ℕ → ℕ} → VectorPasses p rows n D P nonzero v → VectorPasses p rows n D P false v
   passes-any a = record { allowed = a .allowed; orthogonal = a .orthogonal; not-zero = λ e. absurd (false≢true e) }
 
   zero-vector : 0 < p → P 0 → Vector p rows n D P false (replicate n 0)
@@ -113,7 +114,7 @@ module _ {p rows n : ℕ} {D : ℕ → ℕ → ℤ} {P : ℕ → Type 0} where
 module _ {p rows n : ℕ} {D : ℕ → ℕ → ℤ} {P : ℕ → Type 0} (prime : Prime p) (residues : (a : ℕ) → P a → a < p)
     {i j : ℕ} (wrong : Wrong p rows n D i j) where
   -- the wrong column's entry is settled by the others
-  entry-determined : {nonzero : Bool} {v w : ℕ → ℕ} → Passes p rows n D P nonzero v → Passes p rows n D P nonzero w
+  entry-determined : {nonzero : Bool} {v w : ℕ → ℕ} → VectorPasses p rows n D P nonzero v → VectorPasses p rows n D P nonzero w
       → ((k : ℕ) → k < n → (k ≡ j → ⊥) → v k ≡ w k) → v j ≡ w j
   entry-determined {v} {w} a b agree =
       cancel-factor p (d j) (v j) (w j) prime (λ z. wrong .not-zero (sym (mod-eq-of-lt (residue-below p above (D i j))) ∙ z))
@@ -135,7 +136,7 @@ module _ {p rows n : ℕ} {D : ℕ → ℕ → ℤ} {P : ℕ → Type 0} (prime 
       d : ℕ → ℕ
       d k = leastResidue p (D i k)
 
-  vector-determined : {nonzero : Bool} {v w : ℕ → ℕ} → Passes p rows n D P nonzero v → Passes p rows n D P nonzero w
+  vector-determined : {nonzero : Bool} {v w : ℕ → ℕ} → VectorPasses p rows n D P nonzero v → VectorPasses p rows n D P nonzero w
       → ((k : ℕ) → k < n → (k ≡ j → ⊥) → v k ≡ w k) → (k : ℕ) → k < n → v k ≡ w k
   vector-determined a b agree k l =
       elim (ℕ-discrete k j) [ yes e ↦ rw e (entry-determined a b agree) | no other ↦ agree k l other ]
@@ -144,14 +145,9 @@ module _ {p rows n : ℕ} {D : ℕ → ℕ → ℤ} {P : ℕ → Type 0} (prime 
       → Passing p rows n s D P nonzero x → Passing p rows n s D P nonzero y
       → ((t k : ℕ) → t < s → k < n → (k ≡ j → ⊥) → getD x (t * n + k) 0 ≡ getD y (t * n + k) 0) → x ≡ y
   one-column {s} {x} {y} a b agree =
-      ext-getD 0 x y (a .size ∙ sym (b .size))
-      (λ m l. rw (div-add-mod' m n) at (entries (m / n) (m % n) (div-lt-iff-lt-mul above .1 (omega arith)) (mod-lt m above)))
-    where
-      above : 0 < n
-      above = omega arith
-
-      entries : (t k : ℕ) → t < s → k < n → getD x (t * n + k) 0 ≡ getD y (t * n + k) 0
-      entries t k h = vector-determined (a .vectors t h) (b .vectors t h) (λ k. agree t k h) k
+      let above : 0 < n = omega arith in
+      ext-getD 0 x y (a .size ∙ sym (b .size)) (λ m l. by-rows (λ m. getD x m 0 ≡ getD y m 0) {rows = s} n above
+      (λ t k h. vector-determined (a .vectors t h) (b .vectors t h) (λ k. agree t k h) k) m (omega arith))
 
   module _ {b : ℕ} (most : AtMost P b) where
     all-vectors-at-most : AtMost (Vector p rows n D P false) (b ^ (n - 1))

@@ -10,7 +10,7 @@
 use Prim.Native.Nat.{ℕ, _*_, _≤_, _<_}
 use native.Mathlib.Decide.{decLe}
 use native.Mathlib.Omega.{arith}
-use mathlib.Core.Path.{_≡_, ap, _∙_}
+use mathlib.Core.Path.{_≡_, sym, ap, _∙_}
 use mathlib.Core.Bool.{true}
 use mathlib.Core.Logic.{_↔_}
 use mathlib.Core.List.{List}
@@ -61,22 +61,22 @@ module _ (G : Setting) (x : List ℕ) where
     ),
   )
 
-  pub other-length : (length x ≡ count → ⊥) → listReading G x ≡ refusal 10 0
+  pub other-length : (length x ≡ count → ⊥) → refusal 10 0 ≡ listReading G x
   unfolding listReading
   other-length d = rw (ne-eqb (length x) count d)
 
   module _ (size : length x ≡ count) where
     pub first-large : (k : ℕ) → k < count → ((i : ℕ) → i < k → getD x i 0 < modulus) → modulus ≤ getD x k 0
-        → listReading G x ≡ refusal 11 k
+        → refusal 11 k ≡ listReading G x
     unfolding listReading
     first-large k l before h =
         let e : listNumber x k ≡ 11 = number-large x k h in
         rw (eq-eqb (length x) count size)
-        (refusal-is 0 count k (listNumber x) l (λ i m. number-least x i .1 (before i m)) (λ z. omega arith)
-        ∙ rw e (ap (refusal 11) (omega arith)))
+        (sym (refusal-is 0 count k (listNumber x) l (λ i m. number-least x i .1 (before i m)) (λ z. omega arith)
+        ∙ rw e (ap (refusal 11) (omega arith))))
 
-    pub all-least : ((i : ℕ) → i < count → getD x i 0 < modulus) → listReading G x ≡ refusal 0 0
+    pub all-least : {k : ℕ} → ((i : ℕ) → i < k → getD x i 0 < modulus) → count ≤ k → refusal 0 0 ≡ listReading G x
     unfolding listReading
-    all-least all =
+    all-least all l =
         rw (eq-eqb (length x) count size)
-        (refusal-none 0 count (listNumber x) (λ i m. number-least x i .1 (all i m)))
+        (sym (refusal-none 0 count (listNumber x) (λ i m. number-least x i .1 (all i (omega arith)))))

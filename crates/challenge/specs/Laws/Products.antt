@@ -10,13 +10,15 @@
 --   Reached o f n s   s is o plus the sum of the first n values of f
 --   reached-none, reached-more, reached-all   no value is added yet, one more, and all
 --   reduced           the least residue of a number by another form of that
---   offset-made       an offset as the code makes it
+--   offset-made, offset-fits   an offset as the code makes it; it fits 64 bits
+--   held-all, held-with   the sum that two words hold, when all values are added; with a last number
 --   total-fits        the sum of a vector fits 64 bits
 --   term-fits, term-more   so does its product with a 32-bit number, and one such product more is added in two words
 --   RecordsReady b a x   the records of b from a on can be multiplied with x
 --   DotReady l x      so can the numbers of l
 --   NarrowFactors l x o  these are below 2^16, and o is small
 --   narrow-fits, narrow-more   then the sum of o and the products fits 64 bits, and one product more is added
+--   narrow-product, narrow-total   the same of the product and of the sum, as the code asks for it
 --   ProductReady b m x   b has m rows of records for x
 --   records-ready     then each row can be multiplied
 --   rowsTimes b x k   row k of b times x
@@ -29,14 +31,14 @@ use lib.IntN.{ℤ, pos, _+ℤ_, _*ℤ_}
 use lib.ListN.{length, getD}
 use Rattle.residue.specs.Rules.{modulus, leastResidue, sum, WithNumber}
 use Rattle.residue.specs.Laws.Modulus.{modulus-below, modulus-positive}
-use Rattle.residue.specs.Laws.Products.{product-below, Holds, holds-more}
+use Rattle.residue.specs.Laws.Products.{product-below, HoldsSum, holds-more, holds-exact, holds-with}
 use Rattle.residue.specs.Laws.Residues.{residue-of-natural}
 use Rattle.residue.specs.Laws.Sums.{sum-none, sum-more, sum-below}
 use Rattle.algebra.specs.Rules.{sumℤ}
 use Rattle.algebra.specs.Laws.IntegerSums.{sumℤ-cong}
 use Rattle.algebra.specs.Laws.Positions.{row-inside}
 use Rattle.ticket.specs.Rules.{mostInner, recordBytes, valueAt}
-use Rattle.challenge.specs.Laws.Shifts.{taken-off, shift-off, narrow-term, narrow-sum}
+use Rattle.challenge.specs.Laws.Shifts.{taken-off, shift-off, narrow-term}
 
 abbrev pub terms : List ℕ → ℕ → List ℕ → ℕ → ℕ
 terms bytes start x j = valueAt bytes (start + j) * getD x j 0
@@ -87,11 +89,26 @@ reached-all offset f n {k} reached l m =
 pub reduced : {r s t : ℕ} → r ≡ leastResidue modulus (pos s) → s ≡ t → r ≡ t % modulus
 reduced {s = s} e same = e ∙ residue-of-natural modulus modulus-positive s ∙ ap (λ n. n % modulus) same
 
-pub offset-made : (shift n : ℕ) (x : ℕ → ℕ) {p k total r : ℕ} → p ≡ modulus → Reached 0 x k total → k ≤ n → n ≤ k
-    → r ≡ leastResidue modulus (pos total) → (p - shift) * r ≡ taken-off modulus shift n x
-unfolding taken-off
-offset-made shift n x {r = r} p-is reached l m e =
-    ap (λ q. (q - shift) * r) p-is ∙ ap (λ q. (modulus - shift) * q) (reduced e (reached-all 0 x n reached l m ∙ omega arith))
+module _ (shift n : ℕ) (x : ℕ → ℕ) {p k total r : ℕ} (p-is : p ≡ modulus) (reached : Reached 0 x k total) (l : k ≤ n) (m : n ≤ k)
+    (r-is : r ≡ leastResidue modulus (pos total)) where
+  pub offset-made : (p - shift) * r ≡ taken-off modulus shift n x
+  unfolding taken-off
+  offset-made =
+      ap (λ q. (q - shift) * r) p-is ∙ ap (λ q. (modulus - shift) * q) (reduced r-is (reached-all 0 x n reached l m ∙ omega arith))
+
+  pub offset-fits : (p - shift) * r < 2 ^ 64
+  offset-fits = rw offset-made (omega (arith, offset-small shift n x))
+
+-- two words that hold all values, and with a last number added
+
+module _ {f : ℕ → ℕ} {n k low high : ℕ} (held : HoldsSum k f low high) (l : k ≤ n) (m : n ≤ k) where
+  pub held-all : low + 2 ^ 31 * high ≡ sum n f
+  held-all = let all : k ≡ n = omega arith in rw all at (holds-exact held)
+
+  pub held-with : {o low' high' : ℕ} → n ≤ mostInner → o < 2 ^ 64 → WithNumber low high o low' high' → low' + 2 ^ 31 * high' ≡ o + sum n f
+  held-with few fits added =
+      let all : k ≡ n = omega arith in
+      omega (arith, rw all at (holds-with (omega arith) fits held added))
 
 -- sums of products in two words, of 64 bits, and in one
 
@@ -99,7 +116,7 @@ module _ {x : List ℕ} (vector : ResidueVector x) {j : ℕ} (l : j < length x) 
   word-is : getD x j 0 % 2 ^ 32 ≡ getD x j 0
   word-is = mod-eq-of-lt (omega (arith, vector .below j l, modulus-below))
 
-  pub total-fits : {s : ℕ} → Reached 0 (λ i. getD x i 0) j s → s + getD x j 0 < 2 ^ 40
+  pub total-fits : {s : ℕ} → Reached 0 (λ i. getD x i 0) j s → s + getD x j 0 < 2 ^ 64
   total-fits reached =
       omega (
         arith,
@@ -112,8 +129,8 @@ module _ {x : List ℕ} (vector : ResidueVector x) {j : ℕ} (l : j < length x) 
     pub term-fits : v * (getD x j 0 % 2 ^ 32) < 2 ^ 64
     term-fits = product-below 32 small (mod-lt (getD x j 0) (omega arith))
 
-    pub term-more : {f : ℕ → ℕ} {low high low' high' : ℕ} → f j ≡ v * getD x j 0 → Holds j f low high
-        → WithNumber low high (v * (getD x j 0 % 2 ^ 32)) low' high' → Holds (j + 1) f low' high'
+    pub term-more : {f : ℕ → ℕ} {low high low' high' : ℕ} → f j ≡ v * getD x j 0 → HoldsSum j f low high
+        → WithNumber low high (v * (getD x j 0 % 2 ^ 32)) low' high' → HoldsSum (j + 1) f low' high'
     term-more term = holds-more (omega (arith, vector .short)) term-fits (term ∙ ap (λ n. v * n) (sym word-is))
 
 pub record RecordsReady (bytes : List ℕ) (start : ℕ) (x : List ℕ) : Type 0 where
@@ -136,13 +153,19 @@ module _ {list x : List ℕ} {offset : ℕ} (ready : DotReady list x) (narrow : 
         narrow-term (narrow .small j l) (ready .vector .below j l),
         omega (
           arith,
-          narrow-sum (j + 1) (λ i. getD list i 0) (λ i. getD x i 0) (λ i m. narrow .small i (omega arith))
-              (λ i m. ready .vector .below i (omega arith)),
+          sum-below (j + 1) (2 ^ 47) (λ i. getD list i 0 * getD x i 0)
+              (λ i m. narrow-term (narrow .small i (omega arith)) (ready .vector .below i (omega arith))),
           sum-more j (λ i. getD list i 0 * getD x i 0),
           ready .vector .short,
           narrow .offset-most,
         ),
       )
+
+  pub narrow-product : getD list j 0 * (getD x j 0 % 2 ^ 32) < 2 ^ 64
+  narrow-product = omega (arith, narrow-fits)
+
+  pub narrow-total : s + getD list j 0 * (getD x j 0 % 2 ^ 32) < 2 ^ 64
+  narrow-total = omega (arith, narrow-fits)
 
   pub narrow-more : Reached offset (λ i. getD list i 0 * getD x i 0) (j + 1) (s + getD list j 0 * (getD x j 0 % 2 ^ 32))
   narrow-more = reached-more offset (λ i. getD list i 0 * getD x i 0) reached (ap (λ n. getD list j 0 * n) (word-is (ready .vector) l))

@@ -6,7 +6,7 @@
 --   row-caught, row-balanced  an answer by the comparison of two numbers, as the code makes it
 --   rowAgrees G a w x u i     row i of w times x, with the lift taken off, is row i of a times u, with the bound taken off
 --   rowSteps G a w x u τ q    the rows one after the other, for vector number τ after q products
---   RowsReady G a w x u q     the rows can be worked through after q products
+--   VectorRowsReady G a w x u q   the rows can be worked through after q products
 --   SidesReady a w x u o q    so can one row
 --   line-inside               a row is within its list
 --   row-sides                 each row is ready, those before it having passed
@@ -59,7 +59,7 @@ rowSteps G a w x u τ products =
       passed = λ i. refl;
     }
 
-pub record RowsReady (G : Setting) (a w x u : List ℕ) (products : ℕ) : Type 0 where
+pub record VectorRowsReady (G : Setting) (a w x u : List ℕ) (products : ℕ) : Type 0 where
   pub lift-below : lift (clamped G) ≤ modulus
   pub bound-below : G .bound ≤ modulus
   pub vector-x : ResidueVector x
@@ -84,9 +84,9 @@ line-ready : {rows i : ℕ} (list : List ℕ) {x : List ℕ} → ResidueVector x
 line-ready {i = i} list {x} vector l long =
     record { vector = vector; long = omega (arith, part-long list (i * length x) (length x) (line-inside (length x) l long)) }
 
-module _ {G : Setting} {a w x u : List ℕ} {products : ℕ} (ready : RowsReady G a w x u products)
+module _ {G : Setting} {a w x u : List ℕ} {products : ℕ} (ready : VectorRowsReady G a w x u products)
     {τ i : ℕ} {b : Answer} (run : RunTo (rowSteps G a w x u τ products) i b) (l : i < G .rows)
-    {left right : ℕ} (left-is : left ≡ offsetOf (lift (clamped G)) x) (right-is : right ≡ offsetOf (G .bound) u)
+    {right : ℕ} (right-is : right ≡ offsetOf (G .bound) u)
     {r s : List ℕ} (r-is : r ≡ lineAt a (length u) i) (s-is : s ≡ lineAt w (length x) i) where
   -- the products of one row more
   counted : b .products + length x + length u ≡ products + (i + 1) * (length x + length u)
@@ -108,5 +108,6 @@ module _ {G : Setting} {a w x u : List ℕ} {products : ℕ} (ready : RowsReady 
         few = omega (arith, counted, row-inside (length x + length u) l, ready .few);
       })
 
-  pub row-step : {c : Answer} → c ≡ rowAnswer left right r s x u τ i (b .products) → c ≡ step-answer (rowSteps G a w x u τ products) i
-  row-step e = e ∙ rw (left-is, right-is, r-is, s-is, counted)
+  pub row-step : {shift left : ℕ} {c : Answer} → shift ≡ lift (clamped G) → left ≡ offsetOf shift x
+      → c ≡ rowAnswer left right r s x u τ i (b .products) → c ≡ step-answer (rowSteps G a w x u τ products) i
+  row-step shift-is left-is e = e ∙ rw (left-is, shift-is, right-is, r-is, s-is, counted)

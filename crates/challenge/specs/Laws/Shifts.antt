@@ -1,11 +1,10 @@
 -- Sums of products in which one factor is shifted: the list holds z j + s, which is not negative, in place of the integer z j, and
--- the shift s is taken off the sum modulo p. Numbers and p are any, but for those of the narrow laws.
+-- the shift s is taken off the sum modulo p. Numbers and p are any, but for those of the narrow law.
 --
 --   taken-off p s n x   what takes the shift off: the sum of x times the negative of s, modulo p
 --   shifted-residue     a shifted integer, modulo p
 --   shift-off           the sum of the shifted products with that added is the sum of the products, modulo p
 --   narrow-term         a number below 2^16 times a least residue is at most 2^47
---   narrow-sum          so are n of them at most n times that
 use Prim.Native.Nat.{ℕ, _+_, _-_, _*_, _/_, _%_, _^_, _≤_, _<_}
 use native.Mathlib.Nat.{add-mod-mod, div-add-mod, mul-le-mul}
 use native.Mathlib.Omega.{arith}
@@ -15,7 +14,7 @@ use Rattle.residue.specs.Rules.{modulus, leastResidue, sum}
 use Rattle.residue.specs.Laws.Modulo.{mod-of-multiples, multiples-of-mod, mod-mul-left}
 use Rattle.residue.specs.Laws.Modulus.{modulus-below}
 use Rattle.residue.specs.Laws.Residues.{residue-of-natural, residue-sum}
-use Rattle.residue.specs.Laws.Sums.{sum-mod-cong, sum-add, sum-scale, sum-below}
+use Rattle.residue.specs.Laws.Sums.{sum-mod-cong, sum-add, sum-scale}
 use Rattle.algebra.specs.Rules.{sumℤ}
 use Rattle.algebra.specs.Laws.IntegerSums.{residue-dot}
 
@@ -61,7 +60,3 @@ narrow-term {e} {x} small below =
     let a : e ≤ 2 ^ 16 = omega arith in
     let b : x ≤ 2 ^ 31 = omega (arith, modulus-below) in
     omega (arith, mul-le-mul a b)
-
-pub narrow-sum : (n : ℕ) (e x : ℕ → ℕ) → ((j : ℕ) → j < n → e j < 2 ^ 16) → ((j : ℕ) → j < n → x j < modulus)
-    → sum n (λ j. e j * x j) ≤ n * 2 ^ 47
-narrow-sum n e x small below = sum-below n (2 ^ 47) (λ j. e j * x j) (λ j l. narrow-term (small j l) (below j l))

@@ -38,7 +38,7 @@ use Rattle.ticket.specs.Laws.Scans.{scan-cong, scan-by-first}
 use Rattle.challenge.specs.Rules.{challengeAt, balanced, productB, firstRow, vectorProducts, caught, verdict}
 use Rattle.challenge.specs.Laws.Lists.{Entries}
 use Rattle.challenge.specs.Laws.Products.{ResidueVector, ProductReady, rowsTimes, dotOf}
-use Rattle.challenge.specs.Laws.Rows.{RowsReady, rowSteps, line-inside}
+use Rattle.challenge.specs.Laws.Rows.{VectorRowsReady, rowSteps, line-inside}
 use Rattle.challenge.specs.Laws.Sides.{RoomFor, DecodedTo, same-setting, entries-size, claims-size, agrees-balanced}
 
 pub record ListReady (G : Setting) (t x : List ℕ) : Type 0 where
@@ -162,7 +162,7 @@ module _ {G : Setting} {t x : List ℕ} {τ products : ℕ} (ready : VectorReady
         rooms = record { columns = ap length y-is ∙ vector-long; inner = made .long ∙ room .inner }
 
         module _ {a w : List ℕ} (decoded : DecodedTo G t a w) where
-          pub rows-ready : RowsReady G a w y u (products + G .inner * G .columns)
+          pub rows-ready : VectorRowsReady G a w y u (products + G .inner * G .columns)
           rows-ready =
               let passed = ready .list .passed in
               record {

@@ -54,7 +54,7 @@ module _ (s t c : List ℕ) where
                     ap (challengeCheck G t) (same p .1 e)
                     ∙ sym (after-setting ∙ after-passed (reading G t) _ p ∙ rw (eq-eqb _ _ e))
                 | no d ↦
-                    sym (check-list G t x refl p (sym (other-length G x (λ e. d (same p .0 e)))) (λ z. omega arith))
+                    sym (check-list G t x refl p (other-length G x (λ e. d (same p .0 e))) (λ z. omega arith))
                     ∙ sym (after-setting ∙ after-passed (reading G t) _ p ∙ rw (ne-eqb _ _ d))
               ]
         ]

@@ -30,7 +30,7 @@ use Rattle.ticket.specs.Laws.Answers.{after-zero}
 use Rattle.ticket.specs.Laws.Passes.{passed-of}
 use Rattle.ticket.specs.Laws.Scans.{after-passed, after-refused}
 use Rattle.files.specs.Rules.{settingBytes, numberBytes, settingOf, fileCheck}
-use Rattle.files.specs.Laws.Prefixes.{Leads, whole-or-long}
+use Rattle.files.specs.Laws.Prefixes.{Leads, by-start}
 use Rattle.files.specs.Laws.Numbers.{mostNumbers}
 use Rattle.files.specs.Laws.Checks.{setting-file-refused, after-setting}
 
@@ -52,11 +52,7 @@ module _ (s t c : List ℕ) where
   G = settingOf s
 
   setting-start : (i : ℕ) → settingBytes < i → fileCheck (take i s) t c ≡ fileCheck s t c
-  setting-start i h =
-      ⊎-elim
-      (λ e. ap (λ l. fileCheck l t c) e)
-      (λ l. sym (setting-file-refused (take i s) t c (λ z. omega arith)) ∙ setting-file-refused s t c (λ z. omega arith))
-      (whole-or-long settingBytes i s h)
+  setting-start i h = by-start (λ l. fileCheck l t c) s h (λ x l. sym (setting-file-refused x t c (λ z. omega arith)))
 
   module _ (right : length s ≡ settingBytes) where
     ticket-too-long : longestTicket < length t → fileCheck s t c ≡ after (refusal (settingNumber G) 0) (refusal 4 0)
@@ -85,18 +81,10 @@ by-setting-file s t t′ c c′ same =
     ]
 
 ticket-start : (s t c : List ℕ) (j : ℕ) → longestTicket < j → fileCheck s (take j t) c ≡ fileCheck s t c
-ticket-start s t c j h =
-    ⊎-elim
-    (λ e. ap (λ l. fileCheck s l c) e)
-    (λ l. by-setting-file s (take j t) t c c (λ e. ticket-too-long s (take j t) c e (l .1) ∙ sym (ticket-too-long s t c e (l .0))))
-    (whole-or-long longestTicket j t h)
+ticket-start s t c j h = by-setting-file s (take j t) t c c (λ e. by-start (λ l. fileCheck s l c) t h (λ x. ticket-too-long s x c e))
 
 challenge-start : (s t c : List ℕ) (k : ℕ) → longestChallenge < k → fileCheck s t (take k c) ≡ fileCheck s t c
-challenge-start s t c k h =
-    ⊎-elim
-    (λ e. ap (fileCheck s t) e)
-    (λ l. by-setting-file s t t (take k c) c (λ e. challenge-too-long s t (take k c) e (l .1) ∙ sym (challenge-too-long s t c e (l .0))))
-    (whole-or-long longestChallenge k c h)
+challenge-start s t c k h = by-setting-file s t t (take k c) c (λ e. by-start (fileCheck s t) c h (λ x. challenge-too-long s t x e))
 
 pub start-decides : (s t c : List ℕ) (i j k : ℕ) → settingBytes < i → longestTicket < j → longestChallenge < k
     → fileCheck (take i s) (take j t) (take k c) ≡ fileCheck s t c

@@ -79,14 +79,7 @@ module _ {G : Setting} {t : List ℕ} (passed : Passed G t) where
 
   module _ {A B : List ℤ} {y : List ℕ} (holding : ListsHold G t A B y) where
     pub sums-ready : {row : ℕ} → row ≡ G .columns → SumsReady G A B y row
-    sums-ready row-is =
-        record {
-          limits = record { sizes = passed .counts .sizes; numbers = passed .numbers; fitted = passed .fitted };
-          row-is = row-is;
-          rows-long = holding .rows-long;
-          columns-long = holding .columns-long;
-          claims-long = holding .claimed .long;
-        }
+    sums-ready row-is = search
 
     -- the test of a sum is that of its claim
     test-alike : (i j : ℕ) → i < G .rows → j < G .columns → sumSteps G A B y .holds (i * G .columns + j) ≡ holds G t (i * G .columns + j)

@@ -85,38 +85,37 @@ sum-row-ready {G} sums lifting-is l run =
       made = ap (λ a. a .products) (run .answer-is);
     }
 
-module _ {G : Setting} {A B : List ℤ} {claims : List ℕ} {row lifting i : ℕ} {before : Answer}
-    (ready : SumRowReady G A B claims row lifting i before) where
-  module _ {old sums : List ℕ} (long : length old ≡ row) (summed : RowSums (lineAt A (G .inner) i) B old sums) where
-    alike : (j : ℕ) → j < G .columns
-        → claimedFor sums (lineAt claims (G .columns) i) lifting j ≡ sumSteps G A B claims .holds (i * G .columns + j)
-    alike j l =
-        let n = G .columns in
-        let row-long = part-long A (i * G .inner) (G .inner) (ready .row-ends) in
-        let column : j * G .inner + G .inner ≤ length B = omega (arith, row-inside (G .inner) l, ready .sums .columns-long) in
-        let sum : getD sums j 0 ≡ lineSum A B (G .inner) i j =
-        (rw row-long at (summed .each j)) (omega (arith, ready .sums .row-is)) column in
-        rw (digits-div i l, digits-mod i l, sum, ready .lifting-is, part-of claims (i * n) n j 0 l)
+module _ {G : Setting} {A B : List ℤ} {claims old sums : List ℕ} {lifting i : ℕ} {before : Answer}
+    (summed : RowSums (lineAt A (G .inner) i) B old sums) (ready : SumRowReady G A B claims (length old) lifting i before) where
+  alike : (j : ℕ) → j < G .columns
+      → claimedFor sums (lineAt claims (G .columns) i) lifting j ≡ sumSteps G A B claims .holds (i * G .columns + j)
+  alike j l =
+      let n = G .columns in
+      let row-long = part-long A (i * G .inner) (G .inner) (ready .row-ends) in
+      let column : j * G .inner + G .inner ≤ length B = omega (arith, row-inside (G .inner) l, ready .sums .columns-long) in
+      let sum : getD sums j 0 ≡ lineSum A B (G .inner) i j =
+      (rw row-long at (summed .each j)) (omega (arith, ready .sums .row-is)) column in
+      rw (digits-div i l, digits-mod i l, sum, ready .lifting-is, part-of claims (i * n) n j 0 l)
 
-    module _ {count : ℕ} (count-is : count ≡ first (length sums) (claimedFor sums (lineAt claims (G .columns) i) lifting)) where
-      row-long : length sums ≡ G .columns
-      row-long = summed .long ∙ long ∙ ready .sums .row-is
+  module _ {count : ℕ} (count-is : count ≡ first (length sums) (claimedFor sums (lineAt claims (G .columns) i) lifting)) where
+    row-long : length sums ≡ G .columns
+    row-long = summed .long ∙ ready .sums .row-is
 
-      counted : count ≡ first (G .columns) (claimedFor sums (lineAt claims (G .columns) i) lifting)
-      counted = rw row-long at count-is
+    counted : count ≡ first (G .columns) (claimedFor sums (lineAt claims (G .columns) i) lifting)
+    counted = rw row-long at count-is
 
-      pub few-agree : (count ≤ G .columns) × (G .inner * count ≤ G .inner * G .columns)
-      few-agree =
-          let within : count ≤ G .columns = omega (arith, counted, first-within (G .columns) (claimedFor sums (lineAt claims (G .columns) i) lifting)) in
-          (within, mul-le-mul-left (G .inner) within)
+    pub few-agree : (count ≤ G .columns) × (G .inner * count ≤ G .inner * G .columns)
+    few-agree =
+        let within : count ≤ G .columns = omega (arith, counted, first-within (G .columns) (claimedFor sums (lineAt claims (G .columns) i) lifting)) in
+        (within, mul-le-mul-left (G .inner) within)
 
-      pub row-untrue : {products : ℕ} → count < G .columns → products ≡ before .products + G .inner * count + G .inner
-          → RowCompared G A B claims i (answer 16 (i * G .columns + count) 0 products)
-      row-untrue l e =
-          run-breaks (ready .run) (ready .within) _ alike counted l (ap (answer 16 (i * G .columns + count) 0) (omega (arith, ready .made)))
+    pub row-untrue : {products : ℕ} → count < G .columns → products ≡ before .products + G .inner * count + G .inner
+        → RowCompared G A B claims i (answer 16 (i * G .columns + count) 0 products)
+    row-untrue l e =
+        run-breaks (ready .run) (ready .within) _ alike counted l (ap (answer 16 (i * G .columns + count) 0) (omega (arith, ready .made)))
 
-      pub row-true : {products : ℕ} → G .columns ≤ count → products ≡ before .products + G .inner * count
-          → RowCompared G A B claims i (answer 0 0 0 products)
-      row-true l e =
-          let all : count ≡ G .columns = omega (arith, few-agree) in
-          run-several (ready .run) (ready .within) _ alike counted l (ap (answer 0 0 0) (omega (arith, ready .made, ap (λ n. G .inner * n) all)))
+    pub row-true : {products : ℕ} → G .columns ≤ count → products ≡ before .products + G .inner * count
+        → RowCompared G A B claims i (answer 0 0 0 products)
+    row-true l e =
+        let all : count ≡ G .columns = omega (arith, few-agree) in
+        run-several (ready .run) (ready .within) _ alike counted l (ap (answer 0 0 0) (omega (arith, ready .made, ap (λ n. G .inner * n) all)))

@@ -4,7 +4,6 @@
 --   multiples-of-mod   and numbers that leave the same remainder differ by multiples of p
 --   mod-mul-left       a factor may be reduced first
 --   mod-mul            both factors may be reduced first
---   mod-add-cancel     a summand on both sides is cancelled
 --   mod-once           a number from p to 2p is reduced by one subtraction
 --   carriedSum p v s   v + s, with 1 carried where v is in the upper half of the numbers up to p, modulo 2^32 and then modulo p + 1
 --   carried-words      it by two sums modulo 2^32
@@ -31,10 +30,6 @@ mod-mul-left p a b =
 pub mod-mul : (p a b : ℕ) → (a % p * (b % p)) % p ≡ (a * b) % p
 mod-mul p a b =
     mod-mul-left p a (b % p) ∙ ap (λ n. n % p) (mul-comm a (b % p)) ∙ mod-mul-left p b a ∙ ap (λ n. n % p) (mul-comm b a)
-
-pub mod-add-cancel : (p c a b : ℕ) → (a + c) % p ≡ (b + c) % p → a % p ≡ b % p
-mod-add-cancel p c a b e =
-    mod-of-multiples p a b ((b + c) / p) ((a + c) / p) (omega (arith, multiples-of-mod p (a + c) (b + c) e))
 
 pub mod-once : (p x : ℕ) → p ≤ x → x < 2 * p → x % p ≡ x - p
 mod-once p x low high = mod-eq-sub-mod low ∙ mod-eq-of-lt (omega arith)

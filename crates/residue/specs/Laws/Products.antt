@@ -2,7 +2,7 @@
 --
 --   product-below   the product of two numbers of k bits has at most 2k bits
 --   Words k f l h   the words l and h are small, and l + 2^31 · h is the sum of the first k values of f
---   Holds k f l h   the same, with its numbers shut in
+--   HoldsSum k f l h   the same, with its numbers shut in
 --   holds-none      the words 0 and 0 hold the sum of no values
 --   holds-more      one more value of 64 bits is added exactly, up to 2^31 of them
 --   holds-exact     the sum that the words hold
@@ -27,10 +27,10 @@ pub record Words (k : ℕ) (f : ℕ → ℕ) (low high : ℕ) : Type 0 where
   pub exact : low + 2 ^ 31 * high ≡ sum k f
 
 -- a constructor around the record keeps its large numbers out of a loop's arithmetic
-pub data Holds : ℕ → (ℕ → ℕ) → ℕ → ℕ → Type 0 where
-  holds : {k : ℕ} {f : ℕ → ℕ} {low high : ℕ} → Words k f low high → Holds k f low high
+pub data HoldsSum : ℕ → (ℕ → ℕ) → ℕ → ℕ → Type 0 where
+  holds : {k : ℕ} {f : ℕ → ℕ} {low high : ℕ} → Words k f low high → HoldsSum k f low high
 
-pub holds-none : (f : ℕ → ℕ) {low high : ℕ} → (low ≡ 0) × (high ≡ 0) → Holds 0 f low high
+pub holds-none : (f : ℕ → ℕ) {low high : ℕ} → (low ≡ 0) × (high ≡ 0) → HoldsSum 0 f low high
 holds-none f {low} {high} none =
     let words : Words 0 f low high = omega (arith, sum-none f) in
     holds words
@@ -40,18 +40,18 @@ module _ {k : ℕ} {f : ℕ → ℕ} {low high n low' high' : ℕ} (few : k < 2 
       → (low' ≡ low + n % 2 ^ 31) × (high' ≡ high + n / 2 ^ 31)
   words-with words added = (added .low-is ∙ mod-eq-of-lt (omega arith), added .high-is ∙ mod-eq-of-lt (omega arith))
 
-  pub holds-more : f k ≡ n → Holds k f low high → WithNumber low high n low' high' → Holds (k + 1) f low' high'
+  pub holds-more : f k ≡ n → HoldsSum k f low high → WithNumber low high n low' high' → HoldsSum (k + 1) f low' high'
   holds-more term (holds words) added =
       let new = words-with words added in
       let more : Words (k + 1) f low' high' = omega (arith, sum-more k f) in
       holds more
 
-  pub holds-with : Holds k f low high → WithNumber low high n low' high' → low' + 2 ^ 31 * high' ≡ sum k f + n
+  pub holds-with : HoldsSum k f low high → WithNumber low high n low' high' → low' + 2 ^ 31 * high' ≡ sum k f + n
   holds-with (holds words) added =
       let new = words-with words added in
       omega (arith, words .exact)
 
-pub holds-exact : {k : ℕ} {f : ℕ → ℕ} {low high : ℕ} → Holds k f low high → low + 2 ^ 31 * high ≡ sum k f
+pub holds-exact : {k : ℕ} {f : ℕ → ℕ} {low high : ℕ} → HoldsSum k f low high → low + 2 ^ 31 * high ≡ sum k f
 holds-exact (holds words) = words .exact
 
 pub folded : (p low high : ℕ) → p + 1 ≡ 2 ^ 31

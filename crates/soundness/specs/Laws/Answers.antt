@@ -89,8 +89,8 @@ module _ (G : Setting) (t x : List ℕ) where
 
   pub answer-of : {a : Answer} → Answered G t x a → challengeCheck G t x ≡ a
   answer-of (refused r) = sym (check-ticket G t x (sym (refused-reading G t r)) (λ z. omega (arith, refused-number G t r)))
-  answer-of (list-length p d) = sym (check-list G t x refl p (sym (other-length G x d)) (λ z. omega arith))
-  answer-of (list-number p e l h m) = sym (check-list G t x refl p (sym (first-large G x e _ l h m)) (λ z. omega arith))
+  answer-of (list-length p d) = sym (check-list G t x refl p (other-length G x d) (λ z. omega arith))
+  answer-of (list-number p e l h m) = sym (check-list G t x refl p (first-large G x e _ l h m) (λ z. omega arith))
   answer-of (first-unbalanced c) = sym (check-rows G t x refl (c .ticket) refl (c .list) (sym (verdict-caught c)))
   answer-of (all-balanced b) = sym (check-rows G t x refl (b .ticket) refl (b .list) (sym (verdict-accepted (b .balance))))
 
@@ -142,28 +142,22 @@ module _ (G : Setting) (t x : List ℕ) where
     answer-of,
   )
 
-  balances-of : {a : Answer} → Answered G t x a → a .number ≡ 0 → Balances G t x
-  balances-of (refused r) e = absurd (omega (arith, refused-number G t r))
-  balances-of (list-length p d) e = absurd (omega arith)
-  balances-of (list-number p c l h m) e = absurd (omega arith)
-  balances-of (first-unbalanced c) e = absurd (omega arith)
-  balances-of (all-balanced b) e = b
-
-  caught-of : {a : Answer} → Answered G t x a → a .number ≡ 12 → Caught G t x (a .place) (a .row)
-  caught-of (refused r) e = absurd (omega (arith, refused-number G t r))
-  caught-of (list-length p d) e = absurd (omega arith)
-  caught-of (list-number p c l h m) e = absurd (omega arith)
-  caught-of (first-unbalanced c) e = c
-  caught-of (all-balanced b) e = absurd (omega arith)
+  -- what the number of an answer says of its condition
+  condition-of : {a : Answer} → Answered G t x a → (a .number ≡ 0 → Balances G t x) × (a .number ≡ 12 → Caught G t x (a .place) (a .row))
+  condition-of (refused r) = let l = refused-number G t r in (λ e. absurd (omega arith), λ e. absurd (omega arith))
+  condition-of (list-length p d) = (λ e. absurd (omega arith), λ e. absurd (omega arith))
+  condition-of (list-number p c l h m) = (λ e. absurd (omega arith), λ e. absurd (omega arith))
+  condition-of (first-unbalanced c) = (λ e. absurd (omega arith), λ e. c)
+  condition-of (all-balanced b) = (λ e. b, λ e. absurd (omega arith))
 
   pub accepted-exactly : (challengeCheck G t x ≡ accepted G) ↔ Balances G t x
-  accepted-exactly = (λ e. balances-of (answer-exactly (accepted G) .0 e) refl, λ b. answer-of (all-balanced b))
+  accepted-exactly = (λ e. condition-of (answer-exactly (accepted G) .0 e) .0 refl, λ b. answer-of (all-balanced b))
 
   pub accepted-number : Accepted G t x → challengeCheck G t x ≡ accepted G
-  accepted-number e = answer-of (all-balanced (balances-of (answer-exactly (challengeCheck G t x) .0 refl) e))
+  accepted-number e = answer-of (all-balanced (condition-of (answer-exactly (challengeCheck G t x) .0 refl) .0 e))
 
   pub caught-exactly : (τ i : ℕ) → (challengeCheck G t x ≡ caught G τ i) ↔ Caught G t x τ i
-  caught-exactly τ i = (λ e. caught-of (answer-exactly (caught G τ i) .0 e) refl, λ c. answer-of (first-unbalanced c))
+  caught-exactly τ i = (λ e. condition-of (answer-exactly (caught G τ i) .0 e) .1 refl, λ c. answer-of (first-unbalanced c))
 
   row-of : {a : Answer} → Answered G t x a → TableRow G a
   row-of (refused r) = reading-row (refused-in-table r)

@@ -3,7 +3,6 @@ use Prim.Native.Nat.{ℕ, _-_, _≤_, _<_}
 use native.Mathlib.Omega.{arith}
 use borrow.Author.Count.{below-more}
 use borrow.Author.Needs.{needs}
-use mathlib.Core.Path.{sym}
 use lib.ListN.{getD}
 use Rattle.residue.specs.Rules.{modulus}
 use Rattle.challenge.specs.Laws.Lists.{other-length, first-large, all-least}
@@ -16,28 +15,20 @@ Inv-loop list count k₀ k = (k ≤ count) × ((i : ℕ) → i < k → getD list
 abbrev μ-loop : tie.MeasureT-loop
 μ-loop list count k₀ k = count - k
 
-returns : tie.Need-returns Inv-loop μ-loop
-returns c = sym (other-length _ _ (c .if1 .taken))
-
-loop-holds : tie.Need-loop-holds Inv-loop μ-loop
-loop-holds c = (omega arith, λ i l. omega arith)
-
 returns-2 : tie.Need-returns-2 Inv-loop μ-loop
 returns-2 c =
     let in-loop = c .before .before .before in
     let at = in-loop .before in
-    sym (first-large _ _ (at .before .if1 .left) _ (in-loop .loop-test .taken) (at .loop .inv .1) (omega arith))
+    first-large _ _ (at .before .if1 .left) _ (in-loop .loop-test .taken) (at .loop .inv .1) (omega arith)
 
 loop-again : tie.Need-loop-again Inv-loop μ-loop
 loop-again c =
     let at = c .before .before .before .before in
     (omega arith, below-more _ _ (at .loop .inv .1) (omega arith))
 
-returns-3 : tie.Need-returns-3 Inv-loop μ-loop
-returns-3 c = sym (all-least _ _ (c .before .before .if1 .left) (λ i l. c .before .loop .inv .1 i (omega arith)))
-
 pub read-list-spec : {M : Type 1} → statement M
 read-list-spec =
     tie.close
-    (tie.spec Inv-loop μ-loop (λ c. omega arith) (λ c. omega arith) returns loop-holds (λ c κs. search needs) (λ c. omega arith)
-    (λ c. omega arith) (λ c. omega arith) returns-2 (λ c. omega arith) (λ c. omega arith) loop-again returns-3)
+    (tie.spec Inv-loop μ-loop (λ c. omega arith) (λ c. omega arith) (λ c. search other-length)
+    (λ c. (omega arith, λ i l. omega arith)) (λ c κs. search needs) (λ c. omega arith) (λ c. omega arith) (λ c. omega arith)
+    returns-2 (λ c. omega arith) (λ c. omega arith) loop-again (λ c. search (all-least, c .before .loop .inv .1)))

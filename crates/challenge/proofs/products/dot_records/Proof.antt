@@ -2,17 +2,17 @@
 use Prim.Native.Nat.{_+_, _-_, _*_, _≤_}
 use native.Mathlib.Omega.{arith}
 use borrow.Author.Needs.{needs}
-use mathlib.Core.Path.{_≡_, sym, ap, _∙_}
+use mathlib.Core.Path.{_≡_}
 use lib.ListN.{length, getD}
-use Rattle.residue.specs.Laws.Products.{Holds, holds-none, holds-exact}
-use Rattle.ticket.specs.Rules.{recordBytes, valueAt}
+use Rattle.residue.specs.Laws.Products.{HoldsSum, holds-none}
+use Rattle.ticket.specs.Rules.{recordBytes}
 use Rattle.ticket.specs.Laws.Forms.{slice-long, last-word}
-use Rattle.challenge.specs.Laws.Products.{terms, dotOf, reduced, term-fits, term-more}
+use Rattle.challenge.specs.Laws.Products.{terms, dotOf, reduced, term-fits, term-more, held-all}
 use Rattle.challenge.proofs.products.dot_records.Statement.{statement}
 use Rattle.challenge.proofs.products.dot_records.Tie as tie
 
 abbrev Inv-loop : tie.InvT-loop
-Inv-loop records start vector sum₀ r₀ sum r = (r ≤ length vector) × Holds r (terms records start vector) (sum .low) (sum .high)
+Inv-loop records start vector sum₀ r₀ sum r = (r ≤ length vector) × HoldsSum r (terms records start vector) (sum .low) (sum .high)
 
 abbrev μ-loop : tie.MeasureT-loop
 μ-loop records start vector sum₀ r₀ sum r = length vector - r
@@ -24,41 +24,21 @@ inside : (c : tie.In-loop Inv-loop μ-loop) → let of = start (c .before) .args
     recordBytes * (of .start + c .before .loop .r) + recordBytes ≤ length (of .records .now)
 inside c = omega (arith, start (c .before) .pre .long)
 
-read : (c : tie.After-value Inv-loop μ-loop) → let at = c .before .before .before in let of = start at .args in
-    c .value .result .0 ≡ valueAt (of .records .now) (of .start + at .loop .r)
-read c =
+term : (c : tie.After-value Inv-loop μ-loop) → let at = c .before .before .before in let of = start at .args in
+    terms (of .records .now) (of .start) (of .vector .now) (at .loop .r) ≡ c .value .result .0 * getD (of .vector .now) (at .loop .r) 0
+term c =
     let at = c .before .before .before in
     let of = start at .args in
     let k = of .start + at .loop .r in
-    c .value .ensures ∙ rw (slice-long (of .records .now) k (inside (c .before .before)), last-word (of .records .now) k)
-
-loop-holds : tie.Need-loop-holds Inv-loop μ-loop
-loop-holds c = (omega arith, holds-none _ (c .new .ensures))
-
-mul-add-2 : tie.Need-mul-add-2 Inv-loop μ-loop
-mul-add-2 c =
-    let at = c .before .before .before .before .before in
-    record { fits = term-fits (start at .pre .vector) (c .before .before .before .before .loop-test .taken) (omega arith) }
-
-loop-again : tie.Need-loop-again Inv-loop μ-loop
-loop-again c =
-    let value = c .before .before .before in
-    let in-loop = value .before .before in
-    let at = in-loop .before in
-    let term = ap (λ v. v * getD (start at .args .vector .now) (at .loop .r) 0) (sym (read value)) in
-    (omega arith, term-more (start at .pre .vector) (in-loop .loop-test .taken) (omega arith) term (at .loop .inv .1) (c .add .ensures))
-
-returns : tie.Need-returns Inv-loop μ-loop
-unfolding dotOf
-returns c =
-    let at = c .before .before in
-    let all : at .loop .r ≡ length (start at .args .vector .now) = omega arith in
-    reduced (c .residue .ensures) (rw all at (holds-exact (at .loop .inv .1)))
+    rw (c .value .ensures, slice-long (of .records .now) k (inside (c .before .before)), last-word (of .records .now) k)
 
 pub dot-records-spec : {M : Type 1} → statement M
+unfolding dotOf
 dot-records-spec =
     tie.close
-    (tie.spec Inv-loop μ-loop (λ c κs. search needs) loop-holds (λ c. omega (arith, inside c)) (λ c. omega (arith, inside c))
+    (tie.spec Inv-loop μ-loop (λ c κs. search needs) (λ c. (omega arith, holds-none _ (c .new .ensures)))
     (λ c. omega (arith, inside c)) (λ c. omega (arith, inside c)) (λ c. omega (arith, inside c)) (λ c. omega (arith, inside c))
-    (λ c κs. search needs) (λ c. omega arith) (λ c. omega arith) (λ c. omega arith) mul-add-2 (λ c κs. search needs)
-    (λ c. omega arith) (λ c. omega arith) loop-again (λ c κs. search needs) returns)
+    (λ c. omega (arith, inside c)) (λ c. omega (arith, inside c)) (λ c κs. search needs) (λ c. omega arith) (λ c. omega arith)
+    (λ c. omega arith) (λ c. record { fits = search (term-fits, arith) }) (λ c κs. search needs) (λ c. omega arith)
+    (λ c. omega arith) (λ c. (omega arith, search (term-more, arith, term (c .before .before .before)))) (λ c κs. search needs)
+    (λ c. search (reduced, held-all)))

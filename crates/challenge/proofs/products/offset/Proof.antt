@@ -1,10 +1,9 @@
 -- The loop keeps: the sum is that of the first j numbers.
-use Prim.Native.Nat.{_-_, _*_, _≤_}
+use Prim.Native.Nat.{_-_, _≤_}
 use native.Mathlib.Omega.{arith}
 use borrow.Author.Needs.{needs}
-use mathlib.Core.Path.{_≡_, refl}
 use lib.ListN.{length, getD}
-use Rattle.challenge.specs.Laws.Products.{Reached, reached-none, reached-more, total-fits, offsetOf, offset-made, offset-small}
+use Rattle.challenge.specs.Laws.Products.{Reached, reached-none, reached-more, total-fits, offset-made, offset-fits}
 use Rattle.challenge.proofs.products.offset.Statement.{statement}
 use Rattle.challenge.proofs.products.offset.Tie as tie
 
@@ -14,42 +13,10 @@ Inv-loop vector shift sum₀ j₀ sum j = (j ≤ length vector) × Reached 0 (λ
 abbrev μ-loop : tie.MeasureT-loop
 μ-loop vector shift sum₀ j₀ sum j = length vector - j
 
-abbrev start : tie.At-loop Inv-loop μ-loop → tie.Start Inv-loop μ-loop
-start c = c .before .before
-
-made : (c : tie.After-reduce Inv-loop μ-loop) → let of = start (c .before .before .before) .args in
-    (c .before .modulus .result - of .shift) * c .reduce .result .0 ≡ offsetOf (of .shift) (of .vector .now)
-made c =
-    let at = c .before .before .before in
-    let of = start at .args in
-    offset-made (of .shift) _ (λ i. getD (of .vector .now) i 0) (c .before .modulus .ensures) (at .loop .inv .1)
-    (at .loop .inv .0) (c .before .before .loop-test .left) (c .reduce .ensures)
-
-loop-holds : tie.Need-loop-holds Inv-loop μ-loop
-loop-holds c = (omega arith, reached-none 0 _)
-
-add-sum : tie.Need-add-sum Inv-loop μ-loop
-add-sum c = omega (arith, total-fits (start (c .before .before) .pre .0) (c .before .loop-test .taken) (c .before .before .loop .inv .1))
-
-loop-again : tie.Need-loop-again Inv-loop μ-loop
-loop-again c =
-    let at = c .before .before in
-    (omega arith, reached-more 0 (λ i. getD (start at .args .vector .now) i 0) (at .loop .inv .1) refl)
-
-sub-negative : tie.Need-sub-negative Inv-loop μ-loop
-sub-negative c = omega (arith, start (c .before .before) .pre .1)
-
-mul-result : tie.Need-mul-result Inv-loop μ-loop
-mul-result c =
-    let of = start (c .before .before .before .before) .args in
-    rw (made (c .before)) (omega (arith, offset-small (of .shift) (length (of .vector .now)) (λ i. getD (of .vector .now) i 0)))
-
-returns : tie.Need-returns Inv-loop μ-loop
-returns c = made (c .before)
-
 pub offset-spec : {M : Type 1} → statement M
 offset-spec =
     tie.close
-    (tie.spec Inv-loop μ-loop loop-holds (λ c. omega arith) (λ c. omega arith) add-sum (λ c. omega arith) (λ c. omega arith)
-    loop-again (λ c κs. search needs) (λ c. omega arith) sub-negative (λ c κs. search needs) (λ c. omega arith) mul-result
-    returns)
+    (tie.spec Inv-loop μ-loop (λ c. (omega arith, reached-none 0 _)) (λ c. omega arith) (λ c. omega arith)
+    (λ c. record { fits = search total-fits }) (λ c. omega arith) (λ c. omega arith) (λ c. (omega arith, search reached-more))
+    (λ c κs. search needs) (λ c. omega arith) (λ c. omega arith) (λ c κs. search needs) (λ c. omega arith)
+    (λ c. record { fits = search offset-fits }) (λ c. search offset-made))

@@ -1,9 +1,8 @@
 -- The loop keeps: the first k numbers of u are rows of the matrix times the vector.
 use Prim.Native.Nat.{_-_, _≤_, _<_}
 use native.Mathlib.Omega.{arith}
-use mathlib.Core.Path.{_≡_}
 use lib.ListN.{length}
-use Rattle.algebra.specs.Laws.Fills.{Filled, filled-none, filled-more}
+use Rattle.algebra.specs.Laws.Fills.{Filled, filled-none, filled-more, filled-all}
 use Rattle.algebra.specs.Laws.Positions.{row-inside}
 use Rattle.challenge.specs.Laws.Products.{rowsTimes, records-ready}
 use Rattle.challenge.proofs.products.product.Statement.{statement}
@@ -21,29 +20,15 @@ start c = c .before .before .before .before
 more : (c : tie.In-loop Inv-loop μ-loop) → c .before .loop .k < length (start (c .before) .args .u .now)
 more c = omega arith
 
-loop-holds : tie.Need-loop-holds Inv-loop μ-loop
-loop-holds c = (omega arith, filled-none)
-
 mul-start : tie.Need-mul-start Inv-loop μ-loop
 mul-start c =
     let at = start (c .before) in
     omega (arith, row-inside (length (at .args .vector .now)) (more c), at .pre .long)
 
-dot-records-requires : tie.Need-dot-records-requires Inv-loop μ-loop
-dot-records-requires c κs = records-ready (start (c .before) .pre) (more c)
-
-loop-again : tie.Need-loop-again Inv-loop μ-loop
-loop-again c =
-    let in-loop = c .before .before in
-    (omega arith, filled-more (more in-loop) (in-loop .before .loop .inv .1) (c .before .dot-records .ensures))
-
-returns : tie.Need-returns Inv-loop μ-loop
-returns c =
-    let all : c .before .loop .k ≡ length (start (c .before) .args .u .now) = omega arith in
-    rw all at (c .before .loop .inv .1)
-
 pub product-spec : {M : Type 1} → statement M
 product-spec =
     tie.close
-    (tie.spec Inv-loop μ-loop loop-holds mul-start dot-records-requires (λ c. omega arith) (λ c. omega arith) (λ c. omega arith)
-    (λ c. omega arith) (λ c. omega arith) loop-again (λ c. omega arith) returns)
+    (tie.spec Inv-loop μ-loop (λ c. (omega arith, filled-none)) mul-start (λ c κs. records-ready (search) (more c))
+    (λ c. omega arith) (λ c. omega arith) (λ c. omega arith) (λ c. omega arith) (λ c. omega arith)
+    (λ c. (omega arith, search (filled-more, more (c .before .before)))) (λ c. omega arith)
+    (λ c. filled-all (c .before .loop .inv .1) (c .before .loop .inv .0) (omega arith)))

@@ -2,15 +2,14 @@
 use Prim.Native.Nat.{_-_, _*_, _^_, _≤_, _<_}
 use native.Mathlib.Omega.{arith}
 use borrow.Author.Needs.{needs}
-use mathlib.Core.Path.{_≡_, refl}
 use lib.ListN.{length, getD}
-use Rattle.residue.specs.Laws.Products.{Holds, holds-none, holds-with}
-use Rattle.challenge.specs.Laws.Products.{dotWith, reduced, term-fits, term-more}
+use Rattle.residue.specs.Laws.Products.{HoldsSum, holds-none}
+use Rattle.challenge.specs.Laws.Products.{dotWith, reduced, term-fits, term-more, held-with}
 use Rattle.challenge.proofs.products.wide_dot.Statement.{statement}
 use Rattle.challenge.proofs.products.wide_dot.Tie as tie
 
 abbrev Inv-loop : tie.InvT-loop
-Inv-loop list vector offset sum₀ c₀ sum c = (c ≤ length vector) × Holds c (λ i. getD list i 0 * getD vector i 0) (sum .low) (sum .high)
+Inv-loop list vector offset sum₀ c₀ sum c = (c ≤ length vector) × HoldsSum c (λ i. getD list i 0 * getD vector i 0) (sum .low) (sum .high)
 
 abbrev μ-loop : tie.MeasureT-loop
 μ-loop list vector offset sum₀ c₀ sum c = length vector - c
@@ -18,36 +17,16 @@ abbrev μ-loop : tie.MeasureT-loop
 abbrev start : tie.At-loop Inv-loop μ-loop → tie.Start Inv-loop μ-loop
 start c = c .before .before .before .before
 
-abbrev at : tie.After-add Inv-loop μ-loop → tie.At-loop Inv-loop μ-loop
-at c = c .before .before .before .before
-
 small : (c : tie.After-shared-slice-known3 Inv-loop μ-loop) → let at = c .before .before in
     getD (start at .args .list .now) (at .loop .c) 0 < 2 ^ 32
 small c = omega (arith, c .shared-slice-known3 .given (c .before .before .loop .c))
 
-loop-holds : tie.Need-loop-holds Inv-loop μ-loop
-loop-holds c = (omega arith, holds-none _ (c .new .ensures))
-
-mul-add-3 : tie.Need-mul-add-3 Inv-loop μ-loop
-mul-add-3 c = record { fits = term-fits (start (c .before .before .before) .pre .vector) (c .before .before .loop-test .taken) (small (c .before)) }
-
-loop-again : tie.Need-loop-again Inv-loop μ-loop
-loop-again c =
-    let vector = start (at c) .pre .vector in
-    (omega arith, term-more vector (c .before .before .before .loop-test .taken) (small (c .before .before)) refl (at c .loop .inv .1) (c .add .ensures))
-
-returns : tie.Need-returns Inv-loop μ-loop
-unfolding dotWith
-returns c =
-    let at = c .before .before .before in
-    let all : at .loop .c ≡ length (start at .args .vector .now) = omega arith in
-    let sum = holds-with (omega (arith, start at .pre .vector .short)) (omega arith) (at .loop .inv .1) (c .before .add2 .ensures) in
-    reduced (c .residue .ensures) (omega (arith, rw all at sum))
-
 pub wide-dot-spec : {M : Type 1} → statement M
+unfolding dotWith
 wide-dot-spec =
     tie.close
-    (tie.spec Inv-loop μ-loop (λ c κs. search needs) loop-holds (λ c. omega arith)
+    (tie.spec Inv-loop μ-loop (λ c κs. search needs) (λ c. (omega arith, holds-none _ (c .new .ensures))) (λ c. omega arith)
     (λ c. omega (arith, start (c .before .before) .pre .long)) (λ c. omega (arith, small c)) (λ c. omega arith) (λ c. omega arith)
-    mul-add-3 (λ c κs. search needs) (λ c. omega arith) (λ c. omega arith) loop-again (λ c κs. search needs) (λ c κs. search needs)
-    returns)
+    (λ c. record { fits = search (term-fits, small (c .before)) }) (λ c κs. search needs) (λ c. omega arith) (λ c. omega arith)
+    (λ c. (omega arith, search (term-more, small (c .before .before)))) (λ c κs. search needs) (λ c κs. search needs)
+    (λ c. search (reduced, held-with, arith)))

@@ -1,9 +1,9 @@
 -- The loop keeps: the first j numbers of the list are those of the vector.
 use Prim.Native.Nat.{_-_, _≤_}
 use native.Mathlib.Omega.{arith}
-use mathlib.Core.Path.{_≡_, refl}
+use mathlib.Core.Path.{refl}
 use lib.ListN.{length, getD}
-use Rattle.algebra.specs.Laws.Fills.{Filled, filled-none, filled-more}
+use Rattle.algebra.specs.Laws.Fills.{Filled, filled-none, filled-more, filled-all}
 use Rattle.challenge.proofs.products.widen.Statement.{statement}
 use Rattle.challenge.proofs.products.widen.Tie as tie
 
@@ -13,20 +13,10 @@ Inv-loop vector list₀ j₀ list j = (j ≤ length vector) × Filled 0 list₀ 
 abbrev μ-loop : tie.MeasureT-loop
 μ-loop vector list₀ j₀ list j = length vector - j
 
-loop-holds : tie.Need-loop-holds Inv-loop μ-loop
-loop-holds c = (omega arith, filled-none)
-
-loop-again : tie.Need-loop-again Inv-loop μ-loop
-loop-again c = (omega arith, filled-more (omega arith) (c .before .before .loop .inv .1) refl)
-
-returns : tie.Need-returns Inv-loop μ-loop
-returns c =
-    let all : c .before .loop .j ≡ length (c .before .before .args .vector .now) = omega arith in
-    rw all at (c .before .loop .inv .1)
-
 pub widen-spec : {M : Type 1} → statement M
 widen-spec =
     tie.close
-    (tie.spec Inv-loop μ-loop loop-holds (λ c. omega arith) (λ c. omega arith)
+    (tie.spec Inv-loop μ-loop (λ c. (omega arith, filled-none)) (λ c. omega arith) (λ c. omega arith)
     (λ c. omega (arith, c .shared-slice-known .given (c .before .before .loop .j))) (λ c. omega arith) (λ c. omega arith)
-    (λ c. omega arith) (λ c. omega arith) loop-again (λ c. omega arith) returns)
+    (λ c. omega arith) (λ c. omega arith) (λ c. (omega arith, filled-more (omega arith) (c .before .before .loop .inv .1) refl))
+    (λ c. omega arith) (λ c. search filled-all))

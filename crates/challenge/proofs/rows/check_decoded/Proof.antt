@@ -28,9 +28,6 @@ array-borrow-prefix-x c = omega (arith, start (c .before .before .before .before
 slice-aggregate-check-vectors : tie.Need-slice-aggregate-check-vectors
 slice-aggregate-check-vectors c = sym (length-take-le _ _ (omega (arith, sizes c)))
 
-array-borrow-prefix-u : tie.Need-array-borrow-prefix-u
-array-borrow-prefix-u c = omega (arith, sizes c)
-
 slice-aggregate-check-vectors-2 : tie.Need-slice-aggregate-check-vectors-2
 slice-aggregate-check-vectors-2 c = sym (length-take-le _ _ (omega (arith, sizes (c .before))))
 
@@ -55,5 +52,5 @@ check-decoded-spec =
     tie.close
     (tie.spec (λ c κs. search needs) (λ c κs. search needs) (λ c κs. search needs) (λ c κs. search needs) (λ c κs. search needs)
     (λ c κs. search needs) (λ c. search needs) (λ c. search needs) array-borrow-prefix-x slice-aggregate-check-vectors
-    array-borrow-prefix-u slice-aggregate-check-vectors-2 check-vectors-requires (λ c. search needs) (λ c. search needs)
+    (λ c. omega (arith, sizes c)) slice-aggregate-check-vectors-2 check-vectors-requires (λ c. search needs) (λ c. search needs)
     (λ c. search needs))

@@ -9,19 +9,6 @@ start c = c .before .before .before .before .before .before .before
 abbrev widened : tie.After-product-arg2 → tie.After-widen
 widened c = c .before .before .before .before .before
 
-line-requires : tie.Need-line-requires
-line-requires c κs =
-    let pre = c .before .before .before .before .before .before .pre in
-    line-within (pre .0) (pre .2)
-
-widen-requires : tie.Need-widen-requires
-widen-requires c κs = line-fits (start (c .before) .pre .0) (start (c .before) .pre .2) (c .before .line .ensures)
-
-product-requires : tie.Need-product-requires
-product-requires c κs =
-    let at = widened c .before .before in
-    matrix-ready (start at .pre .0) (start at .pre .2) (at .line .ensures) (widened c .widen .ensures) (c .before .before .part .ensures)
-
 check-rows-requires : tie.Need-check-rows-requires
 check-rows-requires c κs =
     let made = c .before .before .before .before .before in
@@ -41,5 +28,5 @@ returns c =
 pub check-vector-spec : {M : Type 1} → statement M
 check-vector-spec =
     tie.close
-    (tie.spec line-requires widen-requires (λ c κs. search needs) product-requires (λ c. search needs) (λ c. search needs)
-    check-rows-requires (λ c. search needs) (λ c. search needs) returns)
+    (tie.spec (λ c κs. search line-within) (λ c κs. search line-fits) (λ c κs. search needs) (λ c κs. search matrix-ready)
+    (λ c. search needs) (λ c. search needs) check-rows-requires (λ c. search needs) (λ c. search needs) returns)

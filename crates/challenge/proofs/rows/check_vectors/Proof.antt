@@ -16,17 +16,6 @@ Inv-loop setting ticket list a w x₀ u₀ answer₀ t₀ x u answer t = RoomFor
 abbrev μ-loop : tie.MeasureT-loop
 μ-loop setting ticket list a w x₀ u₀ answer₀ t₀ x u answer t = setting .vectors - t
 
-abbrev start : tie.At-loop Inv-loop μ-loop → tie.Start Inv-loop μ-loop
-start c = c .before .before .before .before .before .before .before
-
-loop-holds : tie.Need-loop-holds Inv-loop μ-loop
-loop-holds c = (c .before .before .before .before .before .before .pre .2, run-none (ap (answer 0 0 0) (omega arith)))
-
-check-vector-requires : tie.Need-check-vector-requires Inv-loop μ-loop
-check-vector-requires c κs =
-    let at = c .before .before .before .before in
-    (vector-ready (start at .pre .0) (at .loop .inv .1) (c .before .before .if1 .taken), start at .pre .1, at .loop .inv .0)
-
 returns : tie.Need-returns Inv-loop μ-loop
 returns c =
     let checked = c .before .before .before .before .before .before in
@@ -34,16 +23,12 @@ returns c =
     run-stopped (at .loop .inv .1) (checked .before .before .before .if1 .taken) (checked .check-vector .ensures) (c .if2 .taken) ∙ vectors-answer _ _ _
 
 loop-again : tie.Need-loop-again Inv-loop μ-loop
-loop-again c =
-    let checked = c .before .before .before .before .before .before in
-    let at = checked .before .before .before .before .before in
-    (search needs, run-next (at .loop .inv .1) (checked .before .before .before .if1 .taken) (checked .check-vector .ensures) (c .if2 .left))
-
-returns-2 : tie.Need-returns-2 Inv-loop μ-loop
-returns-2 c = run-ended (c .before .before .loop .inv .1) (c .if1 .left) ∙ vectors-answer _ _ _
+loop-again c = (search needs, search run-next)
 
 pub check-vectors-spec : {M : Type 1} → statement M
 check-vectors-spec =
     tie.close
-    (tie.spec Inv-loop μ-loop loop-holds check-vector-requires (λ c. search needs) (λ c. search needs) returns (λ c. omega arith)
-    (λ c. omega arith) loop-again (λ c. search needs) (λ c. search needs) returns-2)
+    (tie.spec Inv-loop μ-loop (λ c. (search, run-none (ap (answer 0 0 0) (omega arith))))
+    (λ c κs. (search vector-ready, search, search)) (λ c. search needs) (λ c. search needs) returns (λ c. omega arith)
+    (λ c. omega arith) loop-again (λ c. search needs) (λ c. search needs)
+    (λ c. run-ended (c .before .before .loop .inv .1) (c .if1 .left) ∙ vectors-answer _ _ _))

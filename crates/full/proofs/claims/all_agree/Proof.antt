@@ -15,9 +15,6 @@ Inv-loop sums claims lift so-far₀ k₀ so-far k = (k ≤ length sums) × (so-f
 abbrev μ-loop : tie.MeasureT-loop
 μ-loop sums claims lift so-far₀ k₀ so-far k = length sums - k
 
-loop-holds : tie.Need-loop-holds Inv-loop μ-loop
-loop-holds c = (omega arith, all-none _)
-
 loop-again : tie.Need-loop-again Inv-loop μ-loop
 loop-again c =
     let at = c .before .before .before .before in
@@ -31,5 +28,5 @@ returns c =
 pub all-agree-spec : {M : Type 1} → statement M
 all-agree-spec =
     tie.close
-    (tie.spec Inv-loop μ-loop loop-holds (λ c. omega arith) (λ c. omega arith) (λ c κs. search needs) (λ c. omega arith)
-    (λ c. omega arith) (λ c. omega arith) (λ c. omega arith) loop-again returns)
+    (tie.spec Inv-loop μ-loop (λ c. (omega arith, all-none _)) (λ c. omega arith) (λ c. omega arith) (λ c κs. search needs)
+    (λ c. omega arith) (λ c. omega arith) (λ c. omega arith) (λ c. omega arith) loop-again returns)

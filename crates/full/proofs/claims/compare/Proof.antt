@@ -31,9 +31,6 @@ lifting c =
     let same = c .lift .ensures ∙ ap lift (clamped-same (limits .sizes) (limits .numbers)) in
     (same, omega (arith, same, lift-small (limits .numbers) (limits .fitted), modulus-below))
 
-cast-lift : tie.Need-cast-lift Inv-loop μ-loop
-cast-lift c = omega (arith, lifting c)
-
 loop-holds : tie.Need-loop-holds Inv-loop μ-loop
 loop-holds c = (refl, run-at (run-none (ap (answer 0 0 0) (omega arith))) (omega arith), omega arith)
 
@@ -42,16 +39,10 @@ compare-row-requires c κs =
     let at = c .before .before .before in
     sum-row-ready (rw (at .loop .inv .0) (start (at .before) .pre)) (lifting (at .before) .0) (c .before .if1 .taken) (at .loop .inv .1)
 
-returns : tie.Need-returns Inv-loop μ-loop
-returns c = c .before .before .before .before .compare-row .ensures .stopping (c .if2 .taken)
-
 loop-again : tie.Need-loop-again Inv-loop μ-loop
 loop-again c =
     let past = c .before .before .before .before .compare-row .ensures .passing (c .if2 .left) in
     (omega arith, run-at past (omega arith), omega arith)
-
-same-length-2 : tie.Need-same-length-2 Inv-loop μ-loop
-same-length-2 c = c .before .before .loop .inv .0
 
 returns-2 : tie.Need-returns-2 Inv-loop μ-loop
 returns-2 c =
@@ -62,5 +53,6 @@ returns-2 c =
 pub compare-spec : {M : Type 1} → statement M
 compare-spec =
     tie.close
-    (tie.spec Inv-loop μ-loop (λ c κs. search needs) cast-lift loop-holds compare-row-requires (λ c. search needs) returns
-    (λ c. omega arith) (λ c. omega arith) loop-again same-length-2 returns-2)
+    (tie.spec Inv-loop μ-loop (λ c κs. search needs) (λ c. omega (arith, lifting c)) loop-holds compare-row-requires
+    (λ c. search needs) (λ c. c .before .before .before .before .compare-row .ensures .stopping (c .if2 .taken)) (λ c. omega arith)
+    (λ c. omega arith) loop-again (λ c. search) returns-2)

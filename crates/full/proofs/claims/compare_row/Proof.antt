@@ -1,6 +1,5 @@
 use Prim.Native.Nat.{_*_, _≤_}
 use native.Mathlib.Omega.{arith}
-use mathlib.Core.Path.{refl}
 use Rattle.full.specs.Laws.Sums.{few-agree, row-untrue, row-true}
 use borrow.Author.Needs.{needs}
 use Rattle.full.proofs.claims.compare_row.Statement.{statement}
@@ -15,37 +14,20 @@ start c = summed c .before .before .before .before .before .before .before
 
 few : (c : tie.After-agreeing) → let G = start c .args .setting in
     (c .agreeing .result ≤ G .columns) × (G .inner * c .agreeing .result ≤ G .inner * G .columns)
-few c = few-agree (start c .pre) refl (summed c .row-sums .ensures) (c .agreeing .ensures)
-
-mul-products : tie.Need-mul-products
-mul-products c = omega (arith, few c)
-
-cast-products : tie.Need-cast-products
-cast-products c = omega (arith, few c)
-
-add-products : tie.Need-add-products
-add-products c = omega (arith, few (c .before))
-
-cast-place : tie.Need-cast-place
-cast-place c = omega (arith, few (c .before .before))
-
-add-made : tie.Need-add-made
-add-made c = omega (arith, few (c .before .before .before))
+few c = few-agree (summed c .row-sums .ensures) (start c .pre) (c .agreeing .ensures)
 
 returns : tie.Need-returns
-returns c =
-    let a = c .before .before .before in
-    row-untrue (start a .pre) refl (summed a .row-sums .ensures) (a .agreeing .ensures) (c .before .if1 .taken) refl
+returns c = search row-untrue
 
 returns-2 : tie.Need-returns-2
-returns-2 c =
-    let a = c .before .before in
-    row-true (start a .pre) refl (summed a .row-sums .ensures) (a .agreeing .ensures) (c .if1 .left) refl
+returns-2 c = search row-true
 
 pub compare-row-spec : {M : Type 1} → statement M
 compare-row-spec =
     tie.close
     (tie.spec (λ c. search needs) (λ c. search needs) (λ c. omega arith) (λ c. search needs) (λ c. omega arith) (λ c. omega arith)
     (λ c. search needs) (λ c. search needs) (λ c. omega arith) (λ c κs. search needs) (λ c. search needs) (λ c. search needs)
-    (λ c. search needs) (λ c. search needs) (λ c. omega arith) (λ c κs. search needs) mul-products cast-products add-products
-    (λ c. search needs) cast-place add-made (λ c. search needs) returns (λ c. search needs) returns-2)
+    (λ c. search needs) (λ c. search needs) (λ c. omega arith) (λ c κs. search needs) (λ c. omega (arith, few c))
+    (λ c. omega (arith, few c)) (λ c. omega (arith, few (c .before))) (λ c. search needs)
+    (λ c. omega (arith, few (c .before .before))) (λ c. omega (arith, few (c .before .before .before))) (λ c. search needs) returns
+    (λ c. search needs) returns-2)

@@ -31,9 +31,6 @@ lists c =
     (parts .before .part3 .ensures) (parts .part4 .ensures) (c .before .before .half .ensures) (of-B c .narrow-entries .ensures)
     (turned c .turn .ensures) (of-A c .narrow-entries2 .ensures) (c .lifted-claims .ensures)
 
-cast-turn-2 : tie.Need-cast-turn-2
-cast-turn-2 c = omega (arith, start (c .before .before .before .before .before .before) .pre .0 .counts .sizes .columns)
-
 array-borrow-prefix-sums : tie.Need-array-borrow-prefix-sums
 array-borrow-prefix-sums c =
     let made = c .before .before .before .before .before .before in
@@ -61,6 +58,7 @@ pub decode-and-compare-spec : {M : Type 1} → statement M
 decode-and-compare-spec =
     tie.close
     (tie.spec (λ c κs. search needs) (λ c κs. search needs) (λ c κs. search needs) (λ c κs. search needs) (λ c κs. search needs)
-    (λ c. search needs) cast-turn-2 (λ c κs. search needs) (λ c κs. search needs) (λ c κs. search needs) (λ c κs. search needs)
-    (λ c. search needs) array-borrow-prefix-sums slice-aggregate-compare compare-requires same-length (λ c. search needs)
-    (λ c. search needs) returns)
+    (λ c. search needs)
+    (λ c. omega (arith, start (c .before .before .before .before .before .before) .pre .0 .counts .sizes .columns))
+    (λ c κs. search needs) (λ c κs. search needs) (λ c κs. search needs) (λ c κs. search needs) (λ c. search needs)
+    array-borrow-prefix-sums slice-aggregate-compare compare-requires same-length (λ c. search needs) (λ c. search needs) returns)

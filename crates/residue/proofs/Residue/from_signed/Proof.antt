@@ -14,15 +14,6 @@ use Rattle.residue.proofs.Residue.from_signed.Tie as tie
 fits : (c : tie.After-struct-told) → SFits w32 (c .before .before .args .entry .0)
 fits c = search needs
 
-cast-lifted : tie.Need-cast-lifted
-cast-lifted c = widened tt (fits c)
-
-add-lifted : tie.Need-add-lifted
-add-lifted c = lifted-fits (c .before .before .args .entry .0) (fits c) _ (lit≤ tt) (lit≤ tt)
-
-cast-reduce : tie.Need-cast-reduce
-cast-reduce c = lifted-natural (c .before .before .args .entry .0) (fits c) _ (lit≤ tt) (lit≤ tt)
-
 returns : tie.Need-returns
 unfolding modulus
 returns c =
@@ -32,4 +23,5 @@ returns c =
 pub from-signed-spec : {M : Type 1} → statement M
 from-signed-spec =
     tie.close
-    (tie.spec cast-lifted (λ c. search needs) (λ c. search needs) add-lifted cast-reduce (λ c κs. search needs) returns)
+    (tie.spec (λ c. widened tt (fits c)) (λ c. search needs) (λ c. search needs) (λ c. lifted-fits _ (fits c) _ (lit≤ tt) (lit≤ tt))
+    (λ c. lifted-natural _ (fits c) _ (lit≤ tt) (lit≤ tt)) (λ c κs. search needs) returns)

@@ -7,13 +7,12 @@ use borrow.Author.Needs.{needs}
 use Rattle.residue.proofs.Residue.power_of_two.Statement.{statement}
 use Rattle.residue.proofs.Residue.power_of_two.Tie as tie
 
-returns : tie.Need-returns
-returns c = sym (power-beyond (c .before .args .k) (c .if1 .taken))
-
 -- the computation over the table: its 31 entries are those of the rule
 returns-2 : tie.Need-returns-2
 unfolding powerOfTwo
 returns-2 c = table-rule powerOfTwo 31 (c .before .args .k) (omega arith)
 
 pub power-of-two-spec : {M : Type 1} → statement M
-power-of-two-spec = tie.close (tie.spec returns (λ c. search needs) (λ c. search needs) returns-2)
+power-of-two-spec =
+    tie.close
+    (tie.spec (λ c. sym (power-beyond _ (c .if1 .taken))) (λ c. search needs) (λ c. search needs) returns-2)

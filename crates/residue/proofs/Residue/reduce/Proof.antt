@@ -4,9 +4,6 @@ use borrow.Author.Needs.{needs}
 use Rattle.residue.proofs.Residue.reduce.Statement.{statement}
 use Rattle.residue.proofs.Residue.reduce.Tie as tie
 
-returns : tie.Need-returns
-unfolding modulus leastResidue
-returns c = refl
-
 pub reduce-spec : {M : Type 1} → statement M
-reduce-spec = tie.close (tie.spec (λ c. search needs) (λ c. search needs) (λ c. search needs) returns)
+unfolding modulus leastResidue
+reduce-spec = tie.close (tie.spec (λ c. search needs) (λ c. search needs) (λ c. search needs) (λ c. refl))

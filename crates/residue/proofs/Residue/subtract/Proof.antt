@@ -7,14 +7,9 @@ use borrow.Author.Needs.{needs}
 use Rattle.residue.proofs.Residue.subtract.Statement.{statement}
 use Rattle.residue.proofs.Residue.subtract.Tie as tie
 
-returns : tie.Need-returns
-unfolding modulus
-returns c =
-    c .reduce .ensures
-    ∙ residue-lifted modulus modulus-positive (c .before .before .before .args .self .0) (c .before .before .before .args .other .0)
-
 pub subtract-spec : {M : Type 1} → statement M
+unfolding modulus
 subtract-spec =
     tie.close
     (tie.spec (λ c. search needs) (λ c. search needs) (λ c. search needs) (λ c. search needs) (λ c. search needs)
-    (λ c κs. search needs) returns)
+    (λ c κs. search needs) (λ c. c .reduce .ensures ∙ residue-lifted modulus modulus-positive _ _))

@@ -7,9 +7,9 @@ use borrow.Author.Needs.{needs}
 use Rattle.residue.proofs.products.ProductSum.residue.Statement.{statement}
 use Rattle.residue.proofs.products.ProductSum.residue.Tie as tie
 
-returns : tie.Need-returns
-unfolding leastResidue
-returns c = c .reduce .ensures ∙ folded modulus _ _ (omega (arith, modulus-is))
-
 pub residue-spec : {M : Type 1} → statement M
-residue-spec = tie.close (tie.spec (λ c. search needs) (λ c. search needs) (λ c. search needs) (λ c κs. search needs) returns)
+unfolding leastResidue
+residue-spec =
+    tie.close
+    (tie.spec (λ c. search needs) (λ c. search needs) (λ c. search needs) (λ c κs. search needs)
+    (λ c. c .reduce .ensures ∙ folded modulus _ _ (omega (arith, modulus-is))))
