@@ -45,7 +45,8 @@ returns-4 : tie.Need-returns-4
 returns-4 c =
     let else = c .before .before .before .before .before in
     let w = writable (else .before .before) in
-    rw (long (else .before), c .products .ensures ∙ ap sumProducts (unclamped w)) (all-written _ _ _ _ w (room else) (c .before .before .before .write-ticket .ensures))
+    rw (long (else .before), c .products .ensures ∙ ap sumProducts (unclamped w))
+    (all-written _ _ _ _ w (room else) (c .before .before .before .write-ticket .ensures))
 
 cast-place : tie.Need-cast-place
 cast-place c =
@@ -56,6 +57,8 @@ pub write-spec : {M : Type 1} → statement M
 write-spec =
     tie.close
     (tie.spec (λ c κs. search needs) (λ c. refused _ _ _ _ (setting-refused _ _ _ _ (sym (c .before .number .ensures)) (c .if1 .taken)) (c .if1 .taken))
-    (λ c κs. limits-of _ (setting c)) (λ c. refused _ _ _ _ (operands-refused _ _ _ _ (setting (c .before .before .before)) (sym (c .before .before .read .ensures)) (c .if2 .taken)) (c .if2 .taken))
+    (λ c κs. limits-of _ (setting c))
+    (λ c. let read = c .before .before in
+    refused _ _ _ _ (operands-refused _ _ _ _ (setting (read .before)) (sym (read .read .ensures)) (c .if2 .taken)) (c .if2 .taken))
     (λ c κs. search needs) returns-3 (λ c κs. (writable (c .before .before .before), room (c .before))) cast-place (λ c κs. search needs)
     (λ c. search needs) returns-4)

@@ -33,9 +33,11 @@ pub write-ticket-spec : {M : Type 1} → statement M
 write-ticket-spec =
     tie.close
     (tie.spec (λ c κs. search needs) (λ c. omega (arith, limits (c .before .before .before .before .before .before .pre .0) .sizes .rows))
-    (λ c. omega (arith, limits (c .before .before .before .before .before .before .before .pre .0) .sizes .inner)) (λ c. search needs) (λ c κs. search needs) (λ c. search needs)
+    (λ c. omega (arith, limits (c .before .before .before .before .before .before .before .pre .0) .sizes .inner)) (λ c. search needs)
+    (λ c κs. search needs) (λ c. search needs)
     (λ c κs. search needs) (λ c. search needs) (λ c. search needs)
     write-operand-requires
     (λ c κs. let A = c .before .before .before in let at = A .before .before in
-    ready-B (begun at .pre .0) (omega (arith, A .write-operand .ensures .long, claimed at .write-claims .ensures .long, begun at .pre .1)) (at .start2 .ensures))
+    ready-B (begun at .pre .0) (omega (arith, A .write-operand .ensures .long, claimed at .write-claims .ensures .long, begun at .pre .1))
+    (at .start2 .ensures))
     (λ c. search needs) returns)

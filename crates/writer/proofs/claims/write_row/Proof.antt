@@ -72,5 +72,6 @@ write-row-spec =
     (tie.spec Inv-loop μ-loop (λ c κs. search needs) (λ c κs. search needs)
     loop-holds (λ c. omega arith) (λ c. omega arith)
     (λ c κs. search) (λ c. omega (arith, inside (one c))) (λ c κs. omega (arith, inside (one c))) (λ c. omega (arith, inside (two c)))
-    (λ c κs. omega (arith, inside (two c), two c .before .loop .inv)) (λ c. omega (arith, inside (end c))) (λ c. omega (arith, inside (end c))) (λ c. omega (arith, inside (end c)))
+    (λ c κs. omega (arith, inside (two c), two c .before .loop .inv)) (λ c. omega (arith, inside (end c)))
+    (λ c. omega (arith, inside (end c))) (λ c. omega (arith, inside (end c)))
     (λ c. omega (arith, end c .loop-test .taken)) loop-again (λ c. c .before .loop .inv .1) returns)

@@ -39,8 +39,8 @@ loop-again c =
     let value = c .before .before .before .before .residue .ensures ∙ ap (leastResidue modulus) (narrowed-is (entry inside) (small inside)) in (
       omega arith,
       omega (arith, at .loop .inv .1),
-      line-record _ _ _ (start at .args .entries .now) (at .loop .inv .2) (c .before .before .write-record .ensures) (search needs) (search needs) (omega (arith, start at .pre .wide))
-          (at .loop .inv .1) value,
+      line-record _ _ _ (start at .args .entries .now) (at .loop .inv .2) (c .before .before .write-record .ensures) (search needs) (search needs)
+          (omega (arith, start at .pre .wide)) (at .loop .inv .1) value,
     )
 
 returns : tie.Need-returns Inv-loop μ-loop
