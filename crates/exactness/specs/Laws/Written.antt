@@ -85,10 +85,9 @@ module _ {G : Setting} {A B : List ℤ} (w : Writable G A B) where
     pub size-quotientOf : let q = quotientOf G A B i j in (negative q ≤ positive q + halfRange G) × (positive q < halfRange G + negative q)
     unfolding quotientOf
     size-quotientOf =
-        let S = sumFor G A B i j in
-        let h = floor-left S (G .scale) (omega (arith, limits w .numbers .scale)) in
-        quotient-within (G .scale) (halfRange G) (reach G) (limits w .numbers .scale .0) (limits w .fitted .sums) S (floorDivision S (G .scale))
-        (h .0) (size-sumFor w i j l m) (h .1) (h .2)
+        let h = floor-left (sumFor G A B i j) (G .scale) (omega (arith, limits w .numbers .scale)) in
+        quotient-within (G .scale) (halfRange G) (reach G) (limits w .numbers .scale .0) (limits w .fitted .sums) _
+        (quotientOf G A B i j) (h .0) (size-sumFor w i j l m) (h .1) (h .2)
 
     left : (r : ℕ) × (r < G .scale) × (remainderOf G A B i j ≡ pos r)
     left = remainder-left G A B i j (omega (arith, limits w .numbers .scale))
@@ -135,11 +134,9 @@ module _ {G : Setting} {A B : List ℤ} (w : Writable G A B) where
         long = length-ticketOf G A B;
         each = λ k l.
             let at = located-at G k l in
-            let value = ticket-value G A B (at .2) l in
-            let least = residue-below modulus modulus-positive _ in
-            rw (tests-located (ticketOf G A B) (at .2), value)
+            rw (tests-located (ticketOf G A B) (at .2), ticket-value G A B (at .2) l)
             (one (ticket-formed G A B (at .2) l)
-            (one (lt-ltb _ _ least) (one (in-range (at .0) _ _ (at .1 .within) (at .2 .row-within) (at .2 .column-within)) none)));
+            (one (lt-ltb _ _ (residue-below modulus modulus-positive _)) (one (in-range (at .0) _ _ (at .1 .within) (at .2 .row-within) (at .2 .column-within)) none)));
       }
 
   pub ticket-passes : Passes G (ticketOf G A B)
