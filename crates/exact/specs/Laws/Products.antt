@@ -63,9 +63,7 @@ above = omega arith
 residue-with : (s : ℕ) (w z : ℤ) → s ≡ leastResidue (2 ^ 32) w → leastResidue (2 ^ 32) (pos s +ℤ z) ≡ leastResidue (2 ^ 32) (w +ℤ z)
 residue-with s w z e =
     let below : s < 2 ^ 32 = rw e (residue-below (2 ^ 32) above w) in
-    residue-sum (2 ^ 32) above (pos s) z
-    ∙ ap (λ n. (n + leastResidue (2 ^ 32) z) % 2 ^ 32) (residue-of-residue (2 ^ 32) above s below ∙ e)
-    ∙ sym (residue-sum (2 ^ 32) above w z)
+    rw (residue-sum (2 ^ 32) above (pos s) z, residue-of-residue (2 ^ 32) above s below, e) (sym (residue-sum (2 ^ 32) above w z))
 
 module _ {x y : List ℤ} {before start : ℕ} where
   pub summed-none : before < 2 ^ 32 → Summed x y before start 0 before

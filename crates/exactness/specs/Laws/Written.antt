@@ -135,8 +135,8 @@ module _ {G : Setting} {A B : List ℤ} (w : Writable G A B) where
         each = λ k l.
             let at = located-at G k l in
             rw (tests-located (ticketOf G A B) (at .2), ticket-value G A B (at .2) l)
-            (one (ticket-formed G A B (at .2) l)
-            (one (lt-ltb _ _ (residue-below modulus modulus-positive _)) (one (in-range (at .0) _ _ (at .1 .within) (at .2 .row-within) (at .2 .column-within)) none)));
+            (one (ticket-formed G A B (at .2) l) (one (lt-ltb _ _ (residue-below modulus modulus-positive _))
+            (one (in-range (at .0) _ _ (at .1 .within) (at .2 .row-within) (at .2 .column-within)) none)));
       }
 
   pub ticket-passes : Passes G (ticketOf G A B)
