@@ -14,19 +14,10 @@ use Rattle.exact.proofs.bits.Tie as tie
 fits : (c : tie.Start) → SFits w32 (c .args .n)
 fits c = search needs
 
-cast-lifted : tie.Need-cast-lifted
-cast-lifted c = widened tt (fits c)
-
-add-lifted : tie.Need-add-lifted
-add-lifted c = lifted-fits (c .args .n) (fits c) _ (lit≤ tt) (lit≤ tt)
-
-cast-low : tie.Need-cast-low
-cast-low c = lifted-natural (c .args .n) (fits c) _ (lit≤ tt) (lit≤ tt)
-
-returns : tie.Need-returns
-returns c =
-    sym (residue-of-natural (2 ^ 32) (omega arith) _)
-    ∙ lifted-residue (c .args .n) (fits c) (2 ^ 32) (lit≤ tt) (lit≤ tt) (2 ^ 32) 1 (omega arith) refl
-
 pub bits-spec : {M : Type 1} → statement M
-bits-spec = tie.close (tie.spec cast-lifted (λ c. search needs) add-lifted cast-low (λ c. search needs) returns)
+bits-spec =
+    tie.close
+    (tie.spec (λ c. widened tt (fits c)) (λ c. search needs) (λ c. lifted-fits (c .args .n) (fits c) _ (lit≤ tt) (lit≤ tt))
+    (λ c. lifted-natural (c .args .n) (fits c) _ (lit≤ tt) (lit≤ tt)) (λ c. search needs)
+    (λ c. sym (residue-of-natural (2 ^ 32) (omega arith) _)
+    ∙ lifted-residue (c .args .n) (fits c) (2 ^ 32) (lit≤ tt) (lit≤ tt) (2 ^ 32) 1 (omega arith) refl))

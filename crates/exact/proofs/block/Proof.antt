@@ -12,19 +12,12 @@ Inv-loop x y start before sum₀ k₀ sum k = (k ≤ 64) × (k % 32 ≡ 0) × Su
 abbrev μ-loop : tie.MeasureT-loop
 μ-loop x y start before sum₀ k₀ sum k = 64 - k
 
-loop-holds : tie.Need-loop-holds Inv-loop μ-loop
-loop-holds c = (omega arith, refl, summed-none (omega arith))
-
 loop-again : tie.Need-loop-again Inv-loop μ-loop
 loop-again c = (omega arith, omega arith, summed-joined (c .before .before .loop .inv .2) (c .products .ensures) refl refl)
-
-returns : tie.Need-returns Inv-loop μ-loop
-returns c =
-    let all : c .before .loop .k ≡ 64 = omega arith in
-    rw all at (c .before .loop .inv .2)
 
 pub block-spec : {M : Type 1} → statement M
 block-spec =
     tie.close
-    (tie.spec Inv-loop μ-loop loop-holds (λ c. omega arith) (λ c κs. omega arith) (λ c. omega arith) (λ c. omega arith) loop-again
-    returns)
+    (tie.spec Inv-loop μ-loop (λ c. (omega arith, refl, summed-none (omega arith))) (λ c. omega arith) (λ c κs. omega arith)
+    (λ c. omega arith) (λ c. omega arith) loop-again
+    (λ c. let all : c .before .loop .k ≡ 64 = omega arith in rw all at (c .before .loop .inv .2)))

@@ -12,17 +12,12 @@ Inv-loop x y start count before sum₀ k₀ sum k = (k ≤ count) × Summed x y 
 abbrev μ-loop : tie.MeasureT-loop
 μ-loop x y start count before sum₀ k₀ sum k = count - k
 
-loop-holds : tie.Need-loop-holds Inv-loop μ-loop
-loop-holds c = (omega arith, summed-none (omega arith))
-
 loop-again : tie.Need-loop-again Inv-loop μ-loop
 loop-again c = (omega arith, summed-joined (c .before .before .loop .inv .1) (c .products .ensures) refl refl)
-
-returns : tie.Need-returns Inv-loop μ-loop
-returns c = summed-joined (c .before .before .loop .inv .1) (c .last .ensures) refl (omega arith)
 
 pub rest-spec : {M : Type 1} → statement M
 rest-spec =
     tie.close
-    (tie.spec Inv-loop μ-loop loop-holds (λ c. omega arith) (λ c. omega arith) (λ c κs. omega arith) (λ c. omega arith)
-    (λ c. omega arith) loop-again (λ c. omega arith) (λ c. omega arith) (λ c κs. omega arith) returns)
+    (tie.spec Inv-loop μ-loop (λ c. (omega arith, summed-none (omega arith))) (λ c. omega arith) (λ c. omega arith) (λ c κs. omega arith)
+    (λ c. omega arith) (λ c. omega arith) loop-again (λ c. omega arith) (λ c. omega arith) (λ c κs. omega arith)
+    (λ c. summed-joined (c .before .before .loop .inv .1) (c .last .ensures) refl (omega arith)))

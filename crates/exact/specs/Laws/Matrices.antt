@@ -11,8 +11,8 @@
 --   row-sums-ended         it is so after the last sum, or before the first column that C has not whole
 --   sums-exact             the product of a row and a column, as lines of two lists, is an entry of the product of matrices, modulo 2^32
 --   row-sums-exact         and so is a sum of the row with columns
-use Prim.Native.Nat.{ℕ, _+_, _-_, _*_, _/_, _%_, _^_, _≤_, _<_}
-use native.Mathlib.Nat.{mul-le-mul-right, div-add-mod', div-lt-iff-lt-mul, mod-lt}
+use Prim.Native.Nat.{ℕ, zero, suc, _+_, _-_, _*_, _/_, _%_, _^_, _≤_, _<_}
+use native.Mathlib.Nat.{zero-mul, mul-le-mul-right, div-add-mod', div-lt-iff-lt-mul, mod-lt}
 use native.Mathlib.Decide.{decLt, ℕ-discrete}
 use native.Mathlib.Omega.{arith}
 use mathlib.Core.Path.{_≡_, refl, sym, ap, _∙_}
@@ -62,13 +62,10 @@ place-of width j l = rw (digits-mod j l, digits-div j l)
 
 -- a place of the turned matrix by its column and its row
 within-turned : {height width i : ℕ} → i < height * width → (i / height < width) × (i % height < height)
-within-turned {height} {width} {i} l =
-    let some : 0 < height = elim (decLt 0 height) [
-      | yes h ↦ h
-      | no h ↦ let none : height ≡ 0 = omega arith in absurd (omega (arith, ap (λ n. n * width) none))
-    ] in
-    let inside : i < width * height = omega arith in
-    (div-lt-iff-lt-mul some .1 inside, mod-lt i some)
+within-turned {height = zero} {width} l = absurd (omega (arith, zero-mul width))
+within-turned {height = suc h} {width} {i} l =
+    let inside : i < width * suc h = omega arith in
+    (div-lt-iff-lt-mul {k = suc h} (omega arith) .1 inside, mod-lt i (omega arith))
 
 -- only one place holds row k, column j
 place-once : (height width k j i : ℕ) → j < width → i < height * width → placeBefore height width i ≡ k * width + j → i ≡ j * height + k
@@ -80,34 +77,29 @@ module _ {matrix : List ℤ} {height width : ℕ} where
   pub turned-none : {before : List ℤ} → TurnedTo matrix height width 0 before before
   turned-none = record { long = refl; each = λ i l m. absurd (omega arith); rest = λ i l. refl }
 
-  turned-more : {k j : ℕ} {value : ℤ} {before list : List ℤ} → k < height → j < width → height * width ≤ length before
-      → TurnedTo matrix height width (k * width + j) before list → value ≡ getD matrix (k * width + j) (pos 0)
-      → TurnedTo matrix height width (k * width + (j + 1)) before (set list (j * height + k) value)
-  turned-more {k} {j} {value} {before} {list} l m room turned is =
-      let at = j * height + k in
-      let inside : at < length list = omega (arith, digits-lt m l, turned .long) in
-      record {
-        long = length-set list at value ∙ turned .long;
-        each = λ i within done. elim (ℕ-discrete i at) [
-          | yes same ↦ rw same (getD-set-same list at value (pos 0) inside ∙ is ∙ ap (λ n. getD matrix n (pos 0)) (sym (place-of width j l)))
-          | no other ↦
-              let earlier : placeBefore height width i ≡ k * width + j → ⊥ = λ same. other (place-once height width k j i m within same) in
-              getD-set-other list at i value (pos 0) other ∙ turned .each i within (omega arith)
-        ];
-        rest = λ i beyond.
-            getD-set-other list at i value (pos 0)
-            (λ same. ⊎-elim (λ past. omega (arith, digits-lt m l)) (λ later. omega (arith, ap (placeBefore height width) same ∙ place-of width j l)) beyond)
-            ∙ turned .rest i (⊎-elim inl (λ later. inr (omega arith)) beyond);
-      }
-
   pub turned-further : {m k j at : ℕ} {value : ℤ} {before list : List ℤ} → k < height → j < width → height * width ≤ length before
       → at ≡ j * height + k → TurnedFurther matrix height width m (k * width + j) before list
       → value ≡ getD matrix (k * width + j) (pos 0) → TurnedFurther matrix height width m (k * width + (j + 1)) before (set list at value)
-  turned-further {at = at} {value = value} {list = list} l m room e turned is =
-      record {
+  turned-further {k = k} {j} {value = value} {list = list} l m room e turned is =
+      let at = j * height + k in
+      let inside : at < length list = omega (arith, digits-lt m l, turned .long) in
+      let there : placeBefore height width at ≡ k * width + j = place-of width j l in
+      rw e (record {
         long = length-set list at value ∙ turned .long;
-        turned = λ so-far. rw e (turned-more l m (omega (arith, so-far .long)) (turned .turned so-far) is);
-      }
+        turned = λ so-far. let now = turned .turned so-far in record {
+          long = length-set list at value ∙ now .long;
+          each = λ i within done. elim (ℕ-discrete i at) [
+            | yes same ↦ rw same (getD-set-same list at value (pos 0) inside ∙ is ∙ ap (λ n. getD matrix n (pos 0)) (sym there))
+            | no other ↦
+                let earlier : placeBefore height width i ≡ k * width + j → ⊥ = λ same. other (place-once height width k j i m within same) in
+                getD-set-other list at i value (pos 0) other ∙ now .each i within (omega arith)
+          ];
+          rest = λ i beyond.
+              getD-set-other list at i value (pos 0)
+              (λ same. ⊎-elim (λ past. omega (arith, digits-lt m l)) (λ later. omega (arith, ap (placeBefore height width) same ∙ there)) beyond)
+              ∙ now .rest i (⊎-elim inl (λ later. inr (omega arith)) beyond);
+        };
+      })
 
   pub turned-all : {n : ℕ} {before list : List ℤ} → height * width ≤ n → TurnedTo matrix height width n before list
       → Filled (pos 0) before (height * width) (turnedNumber matrix height width) list

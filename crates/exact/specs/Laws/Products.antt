@@ -63,46 +63,24 @@ above = omega arith
 residue-with : (s : ℕ) (w z : ℤ) → s ≡ leastResidue (2 ^ 32) w → leastResidue (2 ^ 32) (pos s +ℤ z) ≡ leastResidue (2 ^ 32) (w +ℤ z)
 residue-with s w z e =
     let below : s < 2 ^ 32 = rw e (residue-below (2 ^ 32) above w) in
-    residue-sum (2 ^ 32) above (pos s) z
-    ∙ ap (λ n. (n + leastResidue (2 ^ 32) z) % 2 ^ 32) (residue-of-residue (2 ^ 32) above s below ∙ e)
-    ∙ sym (residue-sum (2 ^ 32) above w z)
+    rw (residue-sum (2 ^ 32) above (pos s) z, residue-of-residue (2 ^ 32) above s below, e) (sym (residue-sum (2 ^ 32) above w z))
 
 module _ {x y : List ℤ} {before start : ℕ} where
   pub summed-none : before < 2 ^ 32 → Summed x y before start 0 before
-  summed-none below =
-      record {
-        is = sym (ap (λ z. leastResidue (2 ^ 32) (pos before +ℤ z)) (sumℤ-none _) ∙ ap (leastResidue (2 ^ 32)) (+ℤ-idr (pos before))
-            ∙ residue-of-residue (2 ^ 32) above before below);
-      }
+  summed-none below = record { is = sym (simp (sumℤ-none, +ℤ-idr) (residue-of-residue (2 ^ 32) above before below)) }
 
   pub summed-more : {k s b s' : ℕ} → Summed x y before start k s
       → b ≡ leastResidue (2 ^ 32) (getD x (start + k) (pos 0) *ℤ getD y (start + k) (pos 0)) → s' ≡ (s + b) % 2 ^ 32
       → Summed x y before start (k + 1) s'
   summed-more {k} summed b-is added =
-      let sum = sumℤ k (λ i. term x y (start + i)) in
-      record {
-        is = added ∙ rw (summed .is, b-is)
-            (sym (
-            ap (λ z. leastResidue (2 ^ 32) (pos before +ℤ z)) (sumℤ-more k _)
-            ∙ ap (leastResidue (2 ^ 32)) (sym (+ℤ-assoc (pos before) sum (term x y (start + k))))
-            ∙ residue-sum (2 ^ 32) above (pos before +ℤ sum) (term x y (start + k))
-            ));
-      }
+      record { is = added ∙ rw (summed .is, b-is, sumℤ-more k, ← +ℤ-assoc) (sym (residue-sum (2 ^ 32) above _ _)) }
 
   pub summed-joined : {k s middle n r total : ℕ} → Summed x y before start k s → Summed x y s middle n r
       → middle ≡ start + k → total ≡ k + n → Summed x y before start total r
   summed-joined {k} {s} {middle} {n} first second at all =
-      let f = sumℤ k (λ i. term x y (start + i)) in
-      let g = sumℤ n (λ i. term x y (middle + i)) in
-      let later : g ≡ sumℤ n (λ i. term x y (start + (k + i))) =
+      let later : sumℤ n (λ i. term x y (middle + i)) ≡ sumℤ n (λ i. term x y (start + (k + i))) =
       sumℤ-cong n _ _ (λ i l. let same : middle + i ≡ start + (k + i) = omega arith in rw same) in
-      record {
-        is = rw all
-            (second .is ∙ residue-with s (pos before +ℤ f) g (first .is)
-            ∙ ap (leastResidue (2 ^ 32))
-            (+ℤ-assoc (pos before) f g
-            ∙ ap (λ z. pos before +ℤ z) (ap (λ z. f +ℤ z) later ∙ sym (sumℤ-split k n (λ i. term x y (start + i))))));
-      }
+      record { is = rw (all, sumℤ-split k n, ← +ℤ-assoc, ← later) (second .is ∙ residue-with s _ _ (first .is)) }
 
 pub summed-all : {x y : List ℤ} {r : ℕ} → Summed x y 0 0 (min (length x) (length y)) r → r ≡ dotProduct x y
 unfolding dotProduct productSum

@@ -90,9 +90,7 @@ module _ (G : Setting) (t : List ℕ) where
 
   fails : {i j : ℕ} → FirstUntrue G t i j → holds G t (i * G .columns + j) ≡ false
   unfolding holds
-  fails {i} {j} u =
-      rw (digits-div i (u .column-within), digits-mod i (u .column-within))
-      (same-other (claim G t i j) (due G t i j) (u .untrue-here))
+  fails {i} u = rw (digits-div i (u .column-within), digits-mod i (u .column-within)) (same-other _ _ (u .untrue-here))
 
   all-hold : AllTrue G t → (c : ℕ) → c < G .rows * G .columns → holds G t c ≡ true
   all-hold a = by-rows (λ c. holds G t c ≡ true) (G .columns) (some-column (a .ticket)) (λ i j l m. holds-exactly i j m .1 (a .claims i j l m))
@@ -102,27 +100,22 @@ module _ (G : Setting) (t : List ℕ) where
   full-answer-of (refused {c} {k} r) =
       let e : reading G t ≡ refusal c k = refused-reading G t r in
       after-refused (reading G t) _ (λ z. omega (arith, refused-number G t r, ap (λ a. a .number) e)) ∙ e
-  full-answer-of (first-untrue {i} {j} u) =
-      let within = digits-lt (u .row-within) (u .column-within) in
+  full-answer-of (first-untrue u) =
       verdict-next (u .ticket)
-      ∙ scan-is (G .rows * G .columns) (i * G .columns + j) (holds G t) (untrue G) (fullAccepted G) within (holds-before u) (fails u)
-  full-answer-of (all-true a) =
-      verdict-next (a .ticket) ∙ scan-none (G .rows * G .columns) (holds G t) (untrue G) (fullAccepted G) (all-hold a)
+      ∙ scan-is _ _ (holds G t) (untrue G) _ (digits-lt (u .row-within) (u .column-within)) (holds-before u) (fails u)
+  full-answer-of (all-true a) = verdict-next (a .ticket) ∙ scan-none _ (holds G t) (untrue G) _ (all-hold a)
 
   answered-claims : Passes G t → (a : Answer) × FullAnswered G t a
   unfolding holds
   answered-claims p =
       ⊎-elim
-      (λ h. (
-        fullAccepted G,
-        all-true (record { ticket = p; claims = λ i j l m. holds-exactly i j m .0 (h (i * G .columns + j) (digits-lt l m)) }),
-      ))
+      (λ h. (_, all-true (record { ticket = p; claims = λ i j l m. holds-exactly i j m .0 (h (i * G .columns + j) (digits-lt l m)) })))
       (λ f. let c = f .0 in
       let i = c / G .columns in
       let j = c % G .columns in
       let split = div-add-mod' c (G .columns) in
       let inside : j < G .columns = mod-lt c (some-column p) in (
-        untrue G (i * G .columns + j),
+        _,
         first-untrue (record {
           ticket = p;
           row-within = div-lt-iff-lt-mul (some-column p) .1 (f .1 .within);
@@ -186,10 +179,7 @@ module _ (G : Setting) (t : List ℕ) where
         }
 
     claim-of-floor : FloorClaim G t i j → claim G t i j ≡ due G t i j
-    claim-of-floor f =
-        claim-is G t i j ∙ ap (λ z. scaled +ℤ z) (f .remainder-is)
-        ∙ +ℤ-comm scaled (due G t i j -ℤ scaled)
-        ∙ -ℤ-+ℤ-cancel (due G t i j) scaled
+    claim-of-floor f = claim-is G t i j ∙ rw (f .remainder-is) (+ℤ-comm scaled _ ∙ -ℤ-+ℤ-cancel (due G t i j) scaled)
 
   pub full-accepted-exactly : FullAccepted G t ↔ (Passes G t × ((i j : ℕ) → i < G .rows → j < G .columns → FloorClaim G t i j))
   full-accepted-exactly = (

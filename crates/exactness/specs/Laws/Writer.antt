@@ -100,11 +100,5 @@ module _ (G : Setting) (A B : List ℤ) where
         | no d ↦ ap length (output-refused G A B o d)
         | yes e ↦
             ap length (output-written G A B o e)
-            ∙ omega (
-              arith,
-              length-append (ticketOf G A B) (drop (ticketLength G) o),
-              length-drop (ticketLength G) o,
-              length-ticketOf G A B,
-              output-long (length o) e,
-            )
+            ∙ simp (length-append, length-drop, length-ticketOf) (omega (arith, output-long (length o) e))
       ]

@@ -40,48 +40,37 @@ use Rattle.ticket.specs.Laws.Tests.{AllHold, none, one}
 use Rattle.challenge.specs.Rules.{Accepted, WellFormed}
 use Rattle.soundness.specs.Laws.Demands.{accepted-exactly-well-formed}
 use Rattle.full.specs.Rules.{fullCheck, fullAccepted, FullAccepted}
-use Rattle.writer.specs.Rules.{writing, entryOf, sumFor, quotientOf, remainderOf, recordOf, integerIn, ticketOf}
+use Rattle.writer.specs.Rules.{writing, entryOf, sumFor, quotientOf, remainderOf, recordOf, integersOf, integerIn, ticketOf}
 use Rattle.writer.specs.Laws.Answers.{Writable}
 use Rattle.writer.specs.Laws.Claims.{claim-sum, remainder-left}
 use Rattle.writer.specs.Laws.Entries.{limits, size-A, size-B, size-sumFor}
-use Rattle.writer.specs.Laws.Records.{record-read, length-records, length-ticketOf, ticket-record-at, ticket-formed, ticket-value, value-in-ticket, integer-A, integer-B, integer-quotient, integer-remainder}
+use Rattle.writer.specs.Laws.Records.{record-read, length-records, length-ticketOf, ticket-record-at, ticket-formed, ticket-value, value-in-ticket}
 use Rattle.exactness.specs.Laws.Full.{full-accepted-true, full-accepted-number}
 use Rattle.exactness.specs.Laws.Writer.{writable-of}
 
 -- the quotient of a sum of size up to c, where c and the scale fit
 module _ (d half c : ℕ) (above : 2 ≤ d) (fit : c + d - 1 ≤ half * d) where
   quotient-within : (S q : ℤ) (r : ℕ) → natAbs S ≤ c → r < d → pos d *ℤ q +ℤ pos r ≡ S
-      → (negative q ≤ half) × (positive q < half)
-  quotient-within S (pos a) r size l e =
-      elim (decLe half a) [
-        | yes large ↦ absurd (omega (arith, mul-le-mul-left d large, parts-within S c size, ap positive e))
-        | no small ↦ (omega arith, omega arith)
-      ]
-  quotient-within S (negsuc b) r size l e =
-      let some : 0 < half = elim (decLe 1 half) [
-        | yes h ↦ h
-        | no h ↦ let none : half ≡ 0 = omega arith in absurd (omega (arith, ap (λ n. n * d) none))
-      ] in
-      elim (decLe (suc b) half) [
-        | yes small ↦ (small, some)
-        | no large ↦
-            let more : half + 1 ≤ suc b = omega arith in
-            absurd (omega (
-              arith,
-              mul-le-mul-left d more,
-              parts-within S c size,
-              parts-product (pos d) (negsuc b),
-              parts-sum (pos d *ℤ negsuc b) (pos r),
-              ap positive e,
-              ap negative e,
-            ))
-      ]
+      → (negative q ≤ positive q + half) × (positive q < half + negative q)
+  quotient-within S q r size l e =
+      let bounds = parts-within S c size in
+      let same : positive S + d * negative q ≡ d * positive q + r + negative S =
+      omega (arith, parts-sum (pos d *ℤ q) (pos r), parts-product (pos d) q, ap positive e, ap negative e) in (
+        elim (decLe (positive q + half + 1) (negative q)) [
+          | yes more ↦ absurd (omega (arith, mul-le-mul-left d more))
+          | no less ↦ omega arith
+        ],
+        elim (decLe (half + negative q) (positive q)) [
+          | yes more ↦ absurd (omega (arith, mul-le-mul-left d more))
+          | no less ↦ omega arith
+        ],
+      )
 
 -- two integers that are small enough are equal where their least residues are
 equal-small : {x y : ℤ} (c : ℕ) → natAbs x ≤ c → natAbs y ≤ c → 2 * c < modulus → leastResidue modulus x ≡ leastResidue modulus y → x ≡ y
 equal-small {x} {y} c small-x small-y room e = residue-close modulus modulus-positive x y (omega (arith, size-difference x y)) e
 
-size-of-parts : (z : ℤ) {c : ℕ} → (negative z ≤ c) × (positive z < c) → natAbs z ≤ c
+size-of-parts : (z : ℤ) {c : ℕ} → (negative z ≤ positive z + c) × (positive z < c + negative z) → natAbs z ≤ c
 size-of-parts (pos n) h = omega arith
 size-of-parts (negsuc n) h = omega arith
 
@@ -93,13 +82,12 @@ same-sums G A A' B B' i j row column =
 
 module _ {G : Setting} {A B : List ℤ} (w : Writable G A B) where
   module _ (i j : ℕ) (l : i < G .rows) (m : j < G .columns) where
-    pub size-quotientOf : let q = quotientOf G A B i j in (negative q ≤ halfRange G) × (positive q < halfRange G)
+    pub size-quotientOf : let q = quotientOf G A B i j in (negative q ≤ positive q + halfRange G) × (positive q < halfRange G + negative q)
     unfolding quotientOf
     size-quotientOf =
-        let S = sumFor G A B i j in
-        let h = floor-left S (G .scale) (omega (arith, limits w .numbers .scale)) in
-        quotient-within (G .scale) (halfRange G) (reach G) (limits w .numbers .scale .0) (limits w .fitted .sums) S (floorDivision S (G .scale))
-        (h .0) (size-sumFor w i j l m) (h .1) (h .2)
+        let h = floor-left (sumFor G A B i j) (G .scale) (omega (arith, limits w .numbers .scale)) in
+        quotient-within (G .scale) (halfRange G) (reach G) (limits w .numbers .scale .0) (limits w .fitted .sums) _
+        (quotientOf G A B i j) (h .0) (size-sumFor w i j l m) (h .1) (h .2)
 
     left : (r : ℕ) × (r < G .scale) × (remainderOf G A B i j ≡ pos r)
     left = remainder-left G A B i j (omega (arith, limits w .numbers .scale))
@@ -125,17 +113,16 @@ module _ {G : Setting} {A B : List ℤ} (w : Writable G A B) where
 
   pub in-range : (n i j : ℕ) → n < length (parts G) → i < part G n .rows → j < part G n .columns
       → part G n .range (leastResidue modulus (integerIn G A B n i j)) ≡ true
+  unfolding integersOf integerIn
   in-range =
       every-part G (λ n i j. part G n .range (leastResidue modulus (integerIn G A B n i j)) ≡ true)
-      (λ i j l m. range-A G _ ∙ rw (integer-A G A B i j) (entry-range _ (size-A w i j l m)))
-      (λ i j l m. range-B G _ ∙ rw (integer-B G A B i j) (entry-range _ (size-B w i j l m)))
+      (λ i j l m. range-A G _ ∙ entry-range _ (size-A w i j l m)) (λ i j l m. range-B G _ ∙ entry-range _ (size-B w i j l m))
       (λ i j l m. let q = quotientOf G A B i j in
-      range-quotients G _ ∙ rw (integer-quotient G A B i j, shifted-is i j l m)
-      (lt-ltb (positive q + halfRange G - negative q) (2 ^ G .width)
-      (omega (arith, size-quotientOf i j l m, half-double {G = G} (limits w .numbers)))))
+      range-quotients G _ ∙ rw (shifted-is i j l m)
+      (lt-ltb (positive q + halfRange G - negative q) _ (omega (arith, size-quotientOf i j l m, half-double {G = G} (limits w .numbers)))))
       (λ i j l m. let h = left i j l m in
       let kept = residue-of-residue modulus modulus-positive (h .0) (omega (arith, h .1, limits w .numbers .scale, modulus-above)) in
-      range-remainders G _ ∙ rw (integer-remainder G A B i j, h .2, kept) (lt-ltb _ _ (h .1)))
+      range-remainders G _ ∙ rw (h .2, kept) (lt-ltb _ _ (h .1)))
 
   passed : Passed G (ticketOf G A B)
   passed =
@@ -147,11 +134,9 @@ module _ {G : Setting} {A B : List ℤ} (w : Writable G A B) where
         long = length-ticketOf G A B;
         each = λ k l.
             let at = located-at G k l in
-            let value = ticket-value G A B (at .2) l in
-            let least = residue-below modulus modulus-positive _ in
-            rw (tests-located (ticketOf G A B) (at .2), value)
-            (one (ticket-formed G A B (at .2) l)
-            (one (lt-ltb _ _ least) (one (in-range (at .0) _ _ (at .1 .within) (at .2 .row-within) (at .2 .column-within)) none)));
+            rw (tests-located (ticketOf G A B) (at .2), ticket-value G A B (at .2) l)
+            (one (ticket-formed G A B (at .2) l) (one (lt-ltb _ _ (residue-below modulus modulus-positive _))
+            (one (in-range (at .0) _ _ (at .1 .within) (at .2 .row-within) (at .2 .column-within)) none)));
       }
 
   pub ticket-passes : Passes G (ticketOf G A B)
@@ -160,37 +145,35 @@ module _ {G : Setting} {A B : List ℤ} (w : Writable G A B) where
   -- what the records stand for
 
   pub written-A : (i k : ℕ) → i < G .rows → k < G .inner → entryA G (ticketOf G A B) i k ≡ entryOf (G .inner) A i k
+  unfolding integersOf integerIn
   written-A i k l m =
-      let is = part-A G in
       equal-small (G .bound) (size-entryA passed i k l m) (size-A w i k l m) small
-      (residue-entryA passed i k l m ∙ value-in-ticket G A B ofA i k (rw (is .rows-are) l) (rw (is .columns-are) m)
-      ∙ ap (leastResidue modulus) (integer-A G A B i k))
+      (residue-entryA passed i k l m ∙ value-in-ticket G A B ofA i k (rw (part-A G .rows-are) l) (rw (part-A G .columns-are) m))
 
   pub written-B : (k j : ℕ) → k < G .inner → j < G .columns → entryB G (ticketOf G A B) k j ≡ entryOf (G .columns) B k j
+  unfolding integersOf integerIn
   written-B k j l m =
-      let is = part-B G in
       equal-small (G .bound) (size-entryB passed k j l m) (size-B w k j l m) small
-      (residue-entryB passed k j l m ∙ value-in-ticket G A B ofB k j (rw (is .rows-are) l) (rw (is .columns-are) m)
-      ∙ ap (leastResidue modulus) (integer-B G A B k j))
+      (residue-entryB passed k j l m ∙ value-in-ticket G A B ofB k j (rw (part-B G .rows-are) l) (rw (part-B G .columns-are) m))
 
   module _ (i j : ℕ) (l : i < G .rows) (m : j < G .columns) where
     pub written-quotient : quotient G (ticketOf G A B) i j ≡ quotientOf G A B i j
+    unfolding integersOf integerIn
     written-quotient =
         let is = part-quotients G in
         equal-small (halfRange G) (size-quotient passed i j l m) (size-of-parts (quotientOf G A B i j) (size-quotientOf i j l m))
         (omega (arith, half-small {G = G} (limits w .numbers), modulus-above))
-        (residue-quotient passed i j l m ∙ value-in-ticket G A B ofQuotients i j (rw (is .rows-are) l) (rw (is .columns-are) m)
-        ∙ ap (leastResidue modulus) (integer-quotient G A B i j))
+        (residue-quotient passed i j l m ∙ value-in-ticket G A B ofQuotients i j (rw (is .rows-are) l) (rw (is .columns-are) m))
 
     pub written-remainder : remainder G (ticketOf G A B) i j ≡ remainderOf G A B i j
+    unfolding integersOf integerIn
     written-remainder =
         let is = part-remainders G in
         let h = small-remainder passed i j l m in
         let k = left i j l m in
         equal-small (G .scale) (rw (h .2) (omega (arith, h .1))) (rw (k .2) (omega (arith, k .1)))
         (omega (arith, limits w .numbers .scale, modulus-above))
-        (residue-remainder passed i j l m ∙ value-in-ticket G A B ofRemainders i j (rw (is .rows-are) l) (rw (is .columns-are) m)
-        ∙ ap (leastResidue modulus) (integer-remainder G A B i j))
+        (residue-remainder passed i j l m ∙ value-in-ticket G A B ofRemainders i j (rw (is .rows-are) l) (rw (is .columns-are) m))
 
     pub written-sum : due G (ticketOf G A B) i j ≡ sumFor G A B i j
     written-sum =
@@ -242,27 +225,21 @@ module _ (G : Setting) (A B : List ℤ) (t : List ℕ) (bytes : (k : ℕ) → ge
 
   same-value : (n i j : ℕ) → n < length (parts G) → i < part G n .rows → j < part G n .columns
       → valueIn G t n i j ≡ leastResidue modulus (integerIn G A B n i j)
+  unfolding integersOf integerIn
   same-value =
       every-part G (λ n i j. valueIn G t n i j ≡ leastResidue modulus (integerIn G A B n i j))
-      (λ i j l m. sym (residue-entryA passed i j l m) ∙ ap (leastResidue modulus) (same-A i j l m ∙ sym (integer-A G A B i j)))
-      (λ i j l m. sym (residue-entryB passed i j l m) ∙ ap (leastResidue modulus) (same-B i j l m ∙ sym (integer-B G A B i j)))
-      (λ i j l m. sym (residue-quotient passed i j l m)
-      ∙ ap (leastResidue modulus) (same-quotient i j l m ∙ sym (integer-quotient G A B i j)))
-      (λ i j l m. sym (residue-remainder passed i j l m)
-      ∙ ap (leastResidue modulus) (same-remainder i j l m ∙ sym (integer-remainder G A B i j)))
+      (λ i j l m. sym (residue-entryA passed i j l m) ∙ ap (leastResidue modulus) (same-A i j l m))
+      (λ i j l m. sym (residue-entryB passed i j l m) ∙ ap (leastResidue modulus) (same-B i j l m))
+      (λ i j l m. sym (residue-quotient passed i j l m) ∙ ap (leastResidue modulus) (same-quotient i j l m))
+      (λ i j l m. sym (residue-remainder passed i j l m) ∙ ap (leastResidue modulus) (same-remainder i j l m))
 
   -- byte by byte, the two tickets have the same records
   same-byte : (k byte : ℕ) → k < records G → byte < recordBytes → byteAt t k byte ≡ byteAt (ticketOf G A B) k byte
   same-byte k byte l m =
       let at = located-at G k l in
-      let n = at .0 in
-      let row = (k - start G n) / part G n .columns in
-      let column = (k - start G n) % part G n .columns in
-      let value : valueAt t k ≡ leastResidue modulus (integerIn G A B n row column) =
-      ap (valueAt t) (at .2 .place) ∙ sym (value-in G t n row column)
-      ∙ same-value n row column (at .1 .within) (at .2 .row-within) (at .2 .column-within) in
-      record-read t k (part G n .kind) row column bytes (record-formed passed l (at .2)) .is .byte byte m
-      ∙ ap (λ v. getD (recordOf (part G n .kind) row column v) byte 0) value
+      let value =
+      ap (valueAt t) (at .2 .place) ∙ sym (value-in G t _ _ _) ∙ same-value _ _ _ (at .1 .within) (at .2 .row-within) (at .2 .column-within) in
+      (rw value at (record-read t k _ _ _ bytes (record-formed passed l (at .2)) .is .byte byte m))
       ∙ sym (ticket-record-at G A B (at .2) l .is .byte byte m)
 
   same-ticket : t ≡ ticketOf G A B

@@ -19,36 +19,16 @@ Inv-loop row columns sums₀ start₀ j₀ sums start j =
 abbrev μ-loop : tie.MeasureT-loop
 μ-loop row columns sums₀ start₀ j₀ sums start j = length sums₀ - j
 
-loop-holds : tie.Need-loop-holds Inv-loop μ-loop
-loop-holds c = (omega arith, omega arith, omega arith, filled-none)
-
-same-length : tie.Need-same-length Inv-loop μ-loop
-same-length c = c .before .before .loop .inv .3 .long
-
-returns : tie.Need-returns Inv-loop μ-loop
-returns c = row-sums-ended (c .before .before .loop .inv .3) (omega arith) (inr (omega arith))
-
-loop-again : tie.Need-loop-again Inv-loop μ-loop
-loop-again c =
-    let at = c .before .before .before .before in
-    let row = at .before .before .args .row .now in
-    let columns = at .before .before .args .columns .now in (
-      omega arith,
-      omega arith,
-      omega arith,
-      filled-more (omega arith) (at .loop .inv .3)
-          (c .dot .ensures ∙ ap (dotProduct row) (line-from columns (length row) (at .loop .j) (at .loop .inv .1))),
-    )
-
-same-length-2 : tie.Need-same-length-2 Inv-loop μ-loop
-same-length-2 c = c .before .loop .inv .3 .long
-
 returns-2 : tie.Need-returns-2 Inv-loop μ-loop
 returns-2 c = row-sums-ended (c .before .loop .inv .3) (omega arith) (inl (omega arith))
 
 pub row-sums-spec : {M : Type 1} → statement M
 row-sums-spec =
     tie.close
-    (tie.spec Inv-loop μ-loop loop-holds (λ c. omega arith) same-length returns (λ c. omega arith) (λ c. omega arith)
+    (tie.spec Inv-loop μ-loop (λ c. (omega arith, omega arith, omega arith, filled-none)) (λ c. omega arith) (λ c. search)
+    (λ c. row-sums-ended (c .before .before .loop .inv .3) (omega arith) (inr (omega arith))) (λ c. omega arith) (λ c. omega arith)
     (λ c. omega arith) (λ c. omega arith) (λ c κs. search needs) (λ c. omega arith) (λ c. omega arith) (λ c. omega arith)
-    (λ c. omega arith) loop-again same-length-2 returns-2)
+    (λ c. omega arith)
+    (λ c. let inv = c .before .before .before .before .loop .inv in
+    (omega arith, omega arith, omega arith, filled-more (omega arith) (inv .3) (c .dot .ensures ∙ ap (dotProduct _) (line-from _ _ _ (inv .1)))))
+    (λ c. search) returns-2)
