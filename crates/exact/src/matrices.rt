@@ -44,15 +44,15 @@ fn turn_row(matrix: &[i16], height: usize, width: usize, row: usize, list: &mut 
 pub fn row_sums(row: &[i16], columns: &[i16], sums: &mut [u32])
     ensures { λ r. ⌜ RowSums (now (row .entry)) (now (columns .entry)) (now (sums .entry)) (now (sums .exit)) ⌝ }
 {
+    let inner = row.len();
     let mut start = 0;
     let mut j = 0;
     while j < sums.len() {
-        let end = start + row.len();
-        if columns.len() < end {
+        if columns.len() - start < inner {
             return;
         }
-        sums[j] = dot(row, &columns[start..end]);
-        start = end;
+        sums[j] = dot(row, &columns[start..start + inner]);
+        start += inner;
         j += 1;
     }
 }
