@@ -7,6 +7,7 @@
 --   row-none, row-claim        no claim of the row is written yet, and one more
 --   Room G a b c               lists of a, b and c numbers have room for a row of A, for the columns of B and for the sums of a row
 --   tiny-room, most-room       so have lists as long as B, and the longest
+--   most-entries               how many entries B has at most
 --   RowsReady G A B x Y s o    A and B are to be written; there is room for a row of A, for the columns of B, for sums and for the ticket
 --   RowsAt G i a x s q r       before row i: its entries begin at a, its claims at the records q and r, and x and s have room for the row
 --   RowRoom G A i a x q r      row i is inside A, and the records of its claims come early
