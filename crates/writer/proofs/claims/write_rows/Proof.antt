@@ -35,9 +35,12 @@ turn c = c .before .before .before .before .before .before .before .before .befo
 abbrev end : tie.After-slice-known4 Inv-loop μ-loop → tie.In-loop Inv-loop μ-loop
 end c = turn (c .before .before .before)
 
+more : (c : tie.In-loop Inv-loop μ-loop) → c .before .loop .row < start (c .before) .args .setting .rows
+more c = c .loop-test .taken
+
 room : (c : tie.In-loop Inv-loop μ-loop) → let at = c .before in let of = start at .args in
     RowRoom (of .setting) (of .a .now) (at .loop .row) (at .loop .from) (at .loop .line) (at .loop .quotients) (at .loop .remainders)
-room c = search row-room
+room c = row-room (start (c .before) .pre) (c .before .loop .inv .0) (more c)
 
 cast-lift : tie.Need-cast-lift Inv-loop μ-loop
 cast-lift c = omega (arith, lift-fits (c .before .before .before .before .pre .writable) (c .before .half .ensures) (c .lift-of .ensures))
@@ -58,15 +61,16 @@ narrow-requires c κs =
 write-row-requires : tie.Need-write-row-requires Inv-loop μ-loop
 write-row-requires c κs =
     let at = turn c .before in
-    row-ready (start at .pre) (at .loop .inv .0) (turn c .loop-test .taken) (lifted at .before .half .ensures) (lifted at .lift-of .ensures)
+    row-ready (start at .pre) (at .loop .inv .0) (more (turn c)) (lifted at .before .half .ensures) (lifted at .lift-of .ensures)
     (c .before .before .before .before .row-sums .ensures .long) (at .loop .inv .1 .long)
 
 loop-again : tie.Need-loop-again Inv-loop μ-loop
 loop-again c =
     let at = end c .before in
+    let left = more (end c) in
     let sums = c .before .before .before .before .before .before .before in (
       search rows-next,
-      rows-more (at .loop .inv .0) (end c .loop-test .taken) (start at .pre .writable) (sums .before .before .before .before .before .narrow .ensures)
+      rows-more (at .loop .inv .0) left (start at .pre .writable) (sums .before .before .before .before .before .narrow .ensures)
           (at .before .before .before .before .narrow-columns .ensures) (start at .pre .long-columns) (sums .row-sums .ensures) (at .loop .inv .1)
           (c .before .before .write-row .ensures),
     )

@@ -20,10 +20,13 @@ abbrev μ-loop : tie.MeasureT-loop
 abbrev start : tie.At-loop Inv-loop μ-loop → tie.Start Inv-loop μ-loop
 start c = c .before .before
 
+more : (c : tie.In-loop Inv-loop μ-loop) → c .before .loop .row < start (c .before) .args .height
+more c = c .loop-test .taken
+
 -- the row is inside the operand
 room : (c : tie.In-loop Inv-loop μ-loop) → let begun = start (c .before) in
     c .before .loop .first + begun .args .width ≤ begun .args .height * begun .args .width
-room c = omega (arith, row-inside (start (c .before) .args .width) (c .loop-test .taken), c .before .loop .inv .1)
+room c = omega (arith, row-inside (start (c .before) .args .width) (more c), c .before .loop .inv .1)
 
 -- its entries
 fits : (c : tie.In-loop Inv-loop μ-loop) → let begun = start (c .before) in
@@ -38,6 +41,7 @@ loop-again : tie.Need-loop-again Inv-loop μ-loop
 loop-again c =
     let inside = c .before .before .before .before .before in
     let at = inside .before .loop in
+    let left = more inside in
     let line = rw (long inside) at (c .before .before .write-line .ensures) in
     (omega arith, omega (arith, at .inv .1), line .long ∙ at .inv .2, search (row-records, line))
 
