@@ -19,6 +19,11 @@ Inv-loop row columns sums₀ inner start₀ j₀ sums start j =
 abbrev μ-loop : tie.MeasureT-loop
 μ-loop row columns sums₀ inner start₀ j₀ sums start j = length sums₀ - j
 
+loop-again : tie.Need-loop-again Inv-loop μ-loop
+loop-again c =
+    let inv = c .before .before .before .before .loop .inv in
+    (omega arith, omega arith, omega arith, filled-more (omega arith) (inv .3) (c .dot .ensures ∙ ap (dotProduct _) (line-from _ _ _ (inv .1))))
+
 returns-2 : tie.Need-returns-2 Inv-loop μ-loop
 returns-2 c = row-sums-ended (c .before .loop .inv .3) (omega arith) (inl (omega arith))
 
@@ -28,7 +33,4 @@ row-sums-spec =
     (tie.spec Inv-loop μ-loop (λ c. (omega arith, omega arith, omega arith, filled-none)) (λ c. omega arith) (λ c. search)
     (λ c. row-sums-ended (c .before .before .loop .inv .3) (omega arith) (inr (omega arith))) (λ c. omega arith) (λ c. omega arith)
     (λ c. omega arith) (λ c. omega arith) (λ c. omega arith) (λ c κs. search needs) (λ c. omega arith) (λ c. omega arith) (λ c. omega arith)
-    (λ c. omega arith) (λ c. omega arith)
-    (λ c. let inv = c .before .before .before .before .loop .inv in
-    (omega arith, omega arith, omega arith, filled-more (omega arith) (inv .3) (c .dot .ensures ∙ ap (dotProduct _) (line-from _ _ _ (inv .1)))))
-    (λ c. search) returns-2)
+    (λ c. omega arith) (λ c. omega arith) loop-again (λ c. search) returns-2)
