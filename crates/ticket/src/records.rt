@@ -217,12 +217,13 @@ fn record_number(records: &[u8], form: Form, i: u32, row: u8, column: u8) -> u32
     requires { ⌜ recordBytes * i + recordBytes ≤ length (now records) ⌝ }
     ensures { λ r. ⌜ r ≡ testedAt (now (records .entry)) form i row column ⌝ }
 {
-    let formed = formed(records, i as usize, form.kind, row, column);
+    if !formed(records, i as usize, form.kind, row, column) {
+        return 5;
+    }
     let value = value_at(records, i as usize);
     let least = value.is_least();
     let shifted = value.add(Residue(form.shift)).0;
-    let value_number = unless(least, 6, unless(shifted < form.limit, form.outside, 0));
-    unless(formed, 5, value_number)
+    unless(least, 6, unless(shifted < form.limit, form.outside, 0))
 }
 
 // Whether record i has the kind, a zero byte, the row and the column.

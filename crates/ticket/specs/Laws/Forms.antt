@@ -10,7 +10,7 @@
 --   recordSlice b i      the bytes of record i of b, as a slice
 --   slice-long, first-word, last-word   how many they are, and the words of its first four bytes and of its last
 --   header-formed        the form of a record by its first four bytes as one word
---   tested-is            the number, by the tests as the code makes them
+--   tested-unformed, tested-formed   the number, by the tests as the code makes them: of a record without its form, and with it
 --   scanned-refused      the records before i pass, and i is refused: the answer of the part
 --   scanned-next         the records before i pass, and i does too
 --   FormedBytes b i κ r c, formed-exactly   the form of a record, byte by byte
@@ -20,7 +20,7 @@ use native.Mathlib.Decide.{ℕ-discrete}
 use native.Mathlib.Omega.{arith}
 use mathlib.Core.Path.{_≡_, refl, sym, _∙_}
 use mathlib.Core.Logic.{_↔_}
-use mathlib.Core.Bool.{Bool, true}
+use mathlib.Core.Bool.{Bool, true, false}
 use mathlib.Core.List.{List, [], _∷_}
 use borrow.Author.Tests.{eq-eqb, eqb-true}
 use lib.Dec.{ltb, eqb, lit<}
@@ -104,13 +104,18 @@ pub header-formed : (bytes : List ℕ) (i : ℕ) {kind row column header expecte
 unfolding formed
 header-formed bytes i h e small k r c = rw (h, e) (word-eqb (small _) (small _) (small _) (small _) k (omega arith) r c)
 
-pub tested-is : (bytes : List ℕ) (F : Form) (i row column : ℕ) {form least : Bool} {value shifted : ℕ}
-    → form ≡ formed bytes i (F .kind) row column → value ≡ valueAt bytes i → least ≡ ltb value modulus
-    → shifted ≡ leastResidue modulus (pos value +ℤ pos (F .shift))
-    → unless form 5 (unless least 6 (unless (ltb shifted (F .limit)) (F .outside) 0)) ≡ testedAt bytes F i row column
-unfolding testedAt firstFailed
-tested-is bytes F i row column form value least shifted =
-    rw (form, least, shifted, value, residue-of-natural modulus modulus-positive (valueAt bytes i + F .shift))
+module _ (bytes : List ℕ) (F : Form) (i row column : ℕ) where
+  pub tested-unformed : formed bytes i (F .kind) row column ≡ false → 5 ≡ testedAt bytes F i row column
+  unfolding testedAt firstFailed
+  tested-unformed form = rw form
+
+  pub tested-formed : {least : Bool} {value shifted : ℕ}
+      → formed bytes i (F .kind) row column ≡ true → value ≡ valueAt bytes i → least ≡ ltb value modulus
+      → shifted ≡ leastResidue modulus (pos value +ℤ pos (F .shift))
+      → unless least 6 (unless (ltb shifted (F .limit)) (F .outside) 0) ≡ testedAt bytes F i row column
+  unfolding testedAt firstFailed
+  tested-formed form value least shifted =
+      rw (form, least, shifted, value, residue-of-natural modulus modulus-positive (valueAt bytes i + F .shift))
 
 module _ (bytes : List ℕ) (F : Form) {i row column number : ℕ} (at : Position (F .columns) i row column)
     (number-is : number ≡ testedAt bytes F i row column) (before : (k : ℕ) → k < i → tested bytes F k ≡ 0) where

@@ -1,20 +1,25 @@
-use mathlib.Core.Path.{_∙_}
+use mathlib.Core.Path.{sym, _∙_}
 use borrow.Author.Needs.{needs}
-use Rattle.ticket.specs.Laws.Forms.{tested-is}
+use borrow.Author.Tests.{not-true, not-false}
+use Rattle.ticket.specs.Laws.Forms.{tested-unformed, tested-formed}
 use Rattle.ticket.proofs.records.record_number.Statement.{statement}
 use Rattle.ticket.proofs.records.record_number.Tie as tie
 
 returns : tie.Need-returns
-returns c =
-    let inner = c .before .before in
-    let added = inner .before .before in
+returns c = tested-unformed _ _ _ _ _ (sym (c .before .formed .ensures) ∙ not-true _ (c .if1 .taken))
+
+returns-2 : tie.Need-returns-2
+returns-2 c =
+    let added = c .before .before .before in
     let value = added .before .before in
-    c .unless3 .ensures
-    ∙ rw (c .before .unless2 .ensures, inner .unless .ensures)
-    (tested-is _ _ _ _ _ (value .before .formed .ensures) (value .value-at .ensures) (added .before .is-least .ensures) (added .add .ensures))
+    let form = value .before in
+    c .unless2 .ensures
+    ∙ rw (c .before .unless .ensures)
+    (tested-formed _ _ _ _ _ (sym (form .before .formed .ensures) ∙ not-false _ (form .if1 .left)) (value .value-at .ensures)
+    (added .before .is-least .ensures) (added .add .ensures))
 
 pub record-number-spec : {M : Type 1} → statement M
 record-number-spec =
     tie.close
-    (tie.spec (λ c κs. search needs) (λ c κs. search needs) (λ c κs. search needs) (λ c κs. search needs) (λ c κs. search needs)
-    (λ c κs. search needs) (λ c κs. search needs) returns)
+    (tie.spec (λ c κs. search needs) returns (λ c κs. search needs) (λ c κs. search needs) (λ c κs. search needs) (λ c κs. search needs)
+    (λ c κs. search needs) returns-2)
