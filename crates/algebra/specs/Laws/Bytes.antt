@@ -1,7 +1,6 @@
 -- Numbers of four bytes, by the rule `word`.
 --
---   word-small      four bytes make a number below 2^32
---   bytes-of-word   the bytes of that number are the four
+--   bytes-of-word   the bytes of the number that four bytes make are the four
 --   word-of-bytes   a number below 2^32 is the one that its bytes make
 --   word-eqb        two such numbers are equal exactly when their bytes are
 use Prim.Native.Nat.{ℕ, _+_, _*_, _/_, _%_, _^_, _<_}
@@ -13,9 +12,6 @@ use lib.Dec.{eqb}
 use Rattle.algebra.specs.Rules.{word}
 
 module _ {a b c d : ℕ} (first : a < 256) (second : b < 256) (third : c < 256) (last : d < 256) where
-  pub word-small : word a b c d < 2 ^ 32
-  word-small = omega arith
-
   pub bytes-of-word : let n = word a b c d in
       (a ≡ n % 256) × (b ≡ n / 256 % 256) × (c ≡ n / 65_536 % 256) × (d ≡ n / 16_777_216 % 256)
   bytes-of-word =

@@ -19,6 +19,9 @@ Inv-loop sums claims lift j₀ j = (j ≤ length sums) × ((i : ℕ) → i < j �
 abbrev μ-loop : tie.MeasureT-loop
 μ-loop sums claims lift j₀ j = length sums - j
 
+loop-holds : tie.Need-loop-holds Inv-loop μ-loop
+loop-holds c = (omega arith, λ i l. absurd (omega arith))
+
 returns-2 : tie.Need-returns-2 Inv-loop μ-loop
 returns-2 c =
     let at = c .before .before .before .before .before in
@@ -40,5 +43,5 @@ agreeing-spec =
     tie.close
     (tie.spec Inv-loop μ-loop (λ c κs. search needs)
     (λ c. sym (first-none _ _ (all-at _ _ (sym (c .before .all-agree .ensures) ∙ c .if1 .taken))))
-    (λ c. (omega arith, λ i l. absurd (omega arith))) (λ c. omega arith) (λ c. omega arith) (λ c κs. search needs) (λ c. omega arith)
+    loop-holds (λ c. omega arith) (λ c. omega arith) (λ c κs. search needs) (λ c. omega arith)
     (λ c. omega arith) returns-2 (λ c. omega arith) (λ c. omega arith) loop-again returns-3)
