@@ -10,6 +10,7 @@ use Rattle.algebra.specs.Rules.{sumℤ, matrixProduct, floorDivision}
 use Rattle.ticket.specs.declared.setting.Setting.{Setting}
 use Rattle.ticket.specs.declared.Answer.{Answer}
 use Rattle.ticket.specs.Rules.{first, answer, scan, after, firstFailed, sizesWithin, numbersWithin, fits, settingTests, settingNumber, isEntry, shiftedQuotient, parts, part, count, start, records, recordBytes, ticketLength, holder, valueAt, formed, partTests, recordTests, firstRefusal, recordsReading, reading, valueIn, entryA, entryB, quotient, remainder, claim, exactSum, due}
+use Rattle.ticket.specs.Examples.{trueTicket}
 use Rattle.challenge.specs.Rules.{listNumber, listReading, productB, claimSide, operandSide, balanced, firstRow, verdict, challengeCheck}
 use Rattle.full.specs.Rules.{same, holds, fullVerdict, fullCheck}
 use Rattle.writer.specs.Rules.{joined, operandNumber, operandsReading, writing, quotientOf, remainderOf, integersOf, integerIn, recordOf, ticketRecord, ticketOf}
@@ -86,27 +87,6 @@ data Example : Type 0 where
   limits : Setting → ℕ → Example
   floors : ℤ → ℕ → ℤ → Example
 
--- A, B, the quotients and the remainders, record by record
-writtenBytes : List ℕ
-writtenBytes =
-    0x01 ∷ 0x00 ∷ 0x00 ∷ 0x00 ∷ 0x03 ∷ 0x00 ∷ 0x00 ∷ 0x00
-    ∷ 0x01 ∷ 0x00 ∷ 0x00 ∷ 0x01 ∷ 0xFD ∷ 0xFF ∷ 0xFF ∷ 0x7F
-    ∷ 0x01 ∷ 0x00 ∷ 0x01 ∷ 0x00 ∷ 0x05 ∷ 0x00 ∷ 0x00 ∷ 0x00
-    ∷ 0x01 ∷ 0x00 ∷ 0x01 ∷ 0x01 ∷ 0x04 ∷ 0x00 ∷ 0x00 ∷ 0x00
-    ∷ 0x02 ∷ 0x00 ∷ 0x00 ∷ 0x00 ∷ 0xFE ∷ 0xFF ∷ 0xFF ∷ 0x7F
-    ∷ 0x02 ∷ 0x00 ∷ 0x00 ∷ 0x01 ∷ 0x06 ∷ 0x00 ∷ 0x00 ∷ 0x00
-    ∷ 0x02 ∷ 0x00 ∷ 0x01 ∷ 0x00 ∷ 0x07 ∷ 0x00 ∷ 0x00 ∷ 0x00
-    ∷ 0x02 ∷ 0x00 ∷ 0x01 ∷ 0x01 ∷ 0xF7 ∷ 0xFF ∷ 0xFF ∷ 0x7F
-    ∷ 0x03 ∷ 0x00 ∷ 0x00 ∷ 0x00 ∷ 0xFD ∷ 0xFF ∷ 0xFF ∷ 0x7F
-    ∷ 0x03 ∷ 0x00 ∷ 0x00 ∷ 0x01 ∷ 0x03 ∷ 0x00 ∷ 0x00 ∷ 0x00
-    ∷ 0x03 ∷ 0x00 ∷ 0x01 ∷ 0x00 ∷ 0x02 ∷ 0x00 ∷ 0x00 ∷ 0x00
-    ∷ 0x03 ∷ 0x00 ∷ 0x01 ∷ 0x01 ∷ 0xFE ∷ 0xFF ∷ 0xFF ∷ 0x7F
-    ∷ 0x04 ∷ 0x00 ∷ 0x00 ∷ 0x00 ∷ 0x03 ∷ 0x00 ∷ 0x00 ∷ 0x00
-    ∷ 0x04 ∷ 0x00 ∷ 0x00 ∷ 0x01 ∷ 0x04 ∷ 0x00 ∷ 0x00 ∷ 0x00
-    ∷ 0x04 ∷ 0x00 ∷ 0x01 ∷ 0x00 ∷ 0x03 ∷ 0x00 ∷ 0x00 ∷ 0x00
-    ∷ 0x04 ∷ 0x00 ∷ 0x01 ∷ 0x01 ∷ 0x08 ∷ 0x00 ∷ 0x00 ∷ 0x00
-    ∷ []
-
 examples : List Example
 examples =
     -- the layout under K: A, B, the quotients, the remainders, and past them
@@ -144,7 +124,7 @@ examples =
     ∷ limits (setting 1 65_536 1 14) 0
     ∷ limits (setting 1 65_536 1 15) 3
     -- the written ticket, and rounding down
-    ∷ writes trueCase (answer 0 128 0 8) writtenBytes
+    ∷ writes trueCase (answer 0 128 0 8) trueTicket
     ∷ floors (minus 17) 10 (minus 2)
     ∷ floors (pos 34) 10 (pos 3)
     ∷ []
@@ -176,5 +156,5 @@ unfolding modulus leastResidue signedEntry sumℤ matrixProduct floorDivision fi
     recordsReading reading valueIn entryA entryB quotient remainder claim exactSum due listNumber listReading productB claimSide operandSide
     balanced firstRow verdict challengeCheck same holds fullVerdict fullCheck joined operandNumber operandsReading writing quotientOf
     remainderOf integersOf integerIn recordOf ticketRecord ticketOf minus recordsFrom ticket setting claiming trueRemainders trueCase changed
-    writtenBytes examples each by-rules
+    trueTicket examples each by-rules
 examples-hold = refl

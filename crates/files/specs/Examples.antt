@@ -8,6 +8,7 @@ use Rattle.residue.specs.Rules.{modulus, leastResidue, signedEntry}
 use Rattle.algebra.specs.Rules.{sumℤ}
 use Rattle.ticket.specs.declared.Answer.{Answer}
 use Rattle.ticket.specs.Rules.{answer, first, scan, after, firstFailed, sizesWithin, numbersWithin, fits, settingTests, isEntry, shiftedQuotient, parts, part, count, start, records, ticketLength, holder, valueAt, formed, partTests, recordTests, firstRefusal, recordsReading, reading, valueIn, entryA, entryB, quotient, remainder, claim}
+use Rattle.ticket.specs.Examples.{trueTicket}
 use Rattle.challenge.specs.Rules.{listNumber, listReading, productB, claimSide, operandSide, balanced, firstRow, verdict, challengeCheck}
 use Rattle.files.specs.Rules.{wordAt, settingOf, numbersOf, fileCheck, digitsOf, decimal, field, lineOf}
 
@@ -18,27 +19,6 @@ setting =
     ∷ 0x0A ∷ 0x00 ∷ 0x00 ∷ 0x00
     ∷ 0x08 ∷ 0x00 ∷ 0x00 ∷ 0x00
     ∷ 0x05 ∷ 0x00 ∷ 0x00 ∷ 0x00
-    ∷ []
-
--- A, B, the quotients and the remainders, record by record
-ticket : List ℕ
-ticket =
-    0x01 ∷ 0x00 ∷ 0x00 ∷ 0x00 ∷ 0x03 ∷ 0x00 ∷ 0x00 ∷ 0x00
-    ∷ 0x01 ∷ 0x00 ∷ 0x00 ∷ 0x01 ∷ 0xFD ∷ 0xFF ∷ 0xFF ∷ 0x7F
-    ∷ 0x01 ∷ 0x00 ∷ 0x01 ∷ 0x00 ∷ 0x05 ∷ 0x00 ∷ 0x00 ∷ 0x00
-    ∷ 0x01 ∷ 0x00 ∷ 0x01 ∷ 0x01 ∷ 0x04 ∷ 0x00 ∷ 0x00 ∷ 0x00
-    ∷ 0x02 ∷ 0x00 ∷ 0x00 ∷ 0x00 ∷ 0xFE ∷ 0xFF ∷ 0xFF ∷ 0x7F
-    ∷ 0x02 ∷ 0x00 ∷ 0x00 ∷ 0x01 ∷ 0x06 ∷ 0x00 ∷ 0x00 ∷ 0x00
-    ∷ 0x02 ∷ 0x00 ∷ 0x01 ∷ 0x00 ∷ 0x07 ∷ 0x00 ∷ 0x00 ∷ 0x00
-    ∷ 0x02 ∷ 0x00 ∷ 0x01 ∷ 0x01 ∷ 0xF7 ∷ 0xFF ∷ 0xFF ∷ 0x7F
-    ∷ 0x03 ∷ 0x00 ∷ 0x00 ∷ 0x00 ∷ 0xFD ∷ 0xFF ∷ 0xFF ∷ 0x7F
-    ∷ 0x03 ∷ 0x00 ∷ 0x00 ∷ 0x01 ∷ 0x03 ∷ 0x00 ∷ 0x00 ∷ 0x00
-    ∷ 0x03 ∷ 0x00 ∷ 0x01 ∷ 0x00 ∷ 0x02 ∷ 0x00 ∷ 0x00 ∷ 0x00
-    ∷ 0x03 ∷ 0x00 ∷ 0x01 ∷ 0x01 ∷ 0xFE ∷ 0xFF ∷ 0xFF ∷ 0x7F
-    ∷ 0x04 ∷ 0x00 ∷ 0x00 ∷ 0x00 ∷ 0x03 ∷ 0x00 ∷ 0x00 ∷ 0x00
-    ∷ 0x04 ∷ 0x00 ∷ 0x00 ∷ 0x01 ∷ 0x04 ∷ 0x00 ∷ 0x00 ∷ 0x00
-    ∷ 0x04 ∷ 0x00 ∷ 0x01 ∷ 0x00 ∷ 0x03 ∷ 0x00 ∷ 0x00 ∷ 0x00
-    ∷ 0x04 ∷ 0x00 ∷ 0x01 ∷ 0x01 ∷ 0x08 ∷ 0x00 ∷ 0x00 ∷ 0x00
     ∷ []
 
 -- the vector (1, 2)
@@ -54,19 +34,19 @@ data Example : Type 0 where
 examples : List Example
 examples =
     -- c: the line 0 0 0 12
-    answers setting ticket challenge (answer 0 0 0 12)
-    ∷ prints setting ticket challenge (48 ∷ 32 ∷ 48 ∷ 32 ∷ 48 ∷ 32 ∷ 49 ∷ 50 ∷ 10 ∷ [])
+    answers setting trueTicket challenge (answer 0 0 0 12)
+    ∷ prints setting trueTicket challenge (48 ∷ 32 ∷ 48 ∷ 32 ∷ 48 ∷ 32 ∷ 49 ∷ 50 ∷ 10 ∷ [])
     -- a setting file of 15 bytes and one of 17
-    ∷ answers (take 15 setting) ticket challenge (answer 1 0 0 0)
-    ∷ answers (setting ++ (0x00 ∷ [])) ticket challenge (answer 1 0 0 0)
+    ∷ answers (take 15 setting) trueTicket challenge (answer 1 0 0 0)
+    ∷ answers (setting ++ (0x00 ∷ [])) trueTicket challenge (answer 1 0 0 0)
     -- no ticket
     ∷ answers setting [] challenge (answer 4 0 0 0)
     -- a challenge file of 7 bytes and one of 9, and none
-    ∷ answers setting ticket (take 7 challenge) (answer 10 0 0 0)
-    ∷ answers setting ticket (challenge ++ (0x00 ∷ [])) (answer 10 0 0 0)
-    ∷ answers setting ticket [] (answer 10 0 0 0)
+    ∷ answers setting trueTicket (take 7 challenge) (answer 10 0 0 0)
+    ∷ answers setting trueTicket (challenge ++ (0x00 ∷ [])) (answer 10 0 0 0)
+    ∷ answers setting trueTicket [] (answer 10 0 0 0)
     -- a ticket of another length comes before a challenge file of another length
-    ∷ answers setting (take 127 ticket) (take 7 challenge) (answer 4 0 0 0)
+    ∷ answers setting (take 127 trueTicket) (take 7 challenge) (answer 4 0 0 0)
     -- no file: the line 1 0 0 0
     ∷ answers [] [] [] (answer 1 0 0 0)
     ∷ prints [] [] [] (49 ∷ 32 ∷ 48 ∷ 32 ∷ 48 ∷ 32 ∷ 48 ∷ 10 ∷ [])
@@ -85,6 +65,6 @@ examples-hold : map by-rules examples ≡ examples
 unfolding modulus leastResidue signedEntry sumℤ first scan after firstFailed sizesWithin numbersWithin fits settingTests isEntry
     shiftedQuotient parts part count start records ticketLength holder valueAt formed partTests recordTests firstRefusal recordsReading
     reading valueIn entryA entryB quotient remainder claim listNumber listReading productB claimSide operandSide balanced firstRow
-    verdict challengeCheck wordAt settingOf numbersOf fileCheck digitsOf decimal field lineOf setting ticket challenge examples
+    verdict challengeCheck wordAt settingOf numbersOf fileCheck digitsOf decimal field lineOf setting trueTicket challenge examples
     by-rules
 examples-hold = refl
