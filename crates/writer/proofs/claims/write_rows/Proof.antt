@@ -35,6 +35,7 @@ turn c = c .before .before .before .before .before .before .before .before .befo
 abbrev end : tie.After-slice-known4 Inv-loop μ-loop → tie.In-loop Inv-loop μ-loop
 end c = turn (c .before .before .before)
 
+-- a row is left
 more : (c : tie.In-loop Inv-loop μ-loop) → c .before .loop .row < start (c .before) .args .setting .rows
 more c = c .loop-test .taken
 

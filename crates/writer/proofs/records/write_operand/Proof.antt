@@ -20,6 +20,7 @@ abbrev μ-loop : tie.MeasureT-loop
 abbrev start : tie.At-loop Inv-loop μ-loop → tie.Start Inv-loop μ-loop
 start c = c .before .before
 
+-- a row is left
 more : (c : tie.In-loop Inv-loop μ-loop) → c .before .loop .row < start (c .before) .args .height
 more c = c .loop-test .taken
 
