@@ -14,6 +14,7 @@ use native.Mathlib.Nat.{mul-le-mul-right, div-add-mod', div-lt-iff-lt-mul, mod-l
 use native.Mathlib.Omega.{arith}
 use lib.Arith.{digits-div, digits-mod}
 use mathlib.Core.Path.{_≡_, sym, ap, _∙_}
+use Rattle.residue.specs.Laws.Modulo.{factor-positive}
 
 pub record Position (columns i row column : ℕ) : Type 0 where
   pub place : row * columns + column ≡ i
@@ -51,7 +52,8 @@ module _ {columns i row column : ℕ} (at : Position columns i row column) where
 pub row-inside : {rows k : ℕ} (n : ℕ) → k < rows → k * n + n ≤ rows * n
 row-inside {rows} {k} n l = omega (arith, mul-le-mul-right n l)
 
-pub by-rows : (Q : ℕ → Type 0) {rows : ℕ} (columns : ℕ) → 0 < columns → ((i j : ℕ) → i < rows → j < columns → Q (i * columns + j))
+pub by-rows : (Q : ℕ → Type 0) {rows : ℕ} (columns : ℕ) → ((i j : ℕ) → i < rows → j < columns → Q (i * columns + j))
     → (k : ℕ) → k < rows * columns → Q k
-by-rows Q columns wide h k l =
+by-rows Q {rows} columns h k l =
+    let wide = factor-positive rows columns k l in
     rw (div-add-mod' k columns) at (h (k / columns) (k % columns) (div-lt-iff-lt-mul wide .1 l) (mod-lt k wide))

@@ -1,10 +1,8 @@
--- The soundness of Freivalds' check: how many lists of challenge vectors a wrong product passes. D is the matrix of the
--- differences between the claimed product and the true one, P says which numbers may be entries of a vector, and nonzero
--- whether the zero vector is excluded. A list of s vectors of n entries is one list of s * n numbers: entry k of vector t is
--- its number t * n + k.
+-- The soundness of Freivalds' check: how many lists of challenge vectors (Drawn) a wrong product passes. D is the matrix of the
+-- differences between the claimed product and the true one.
 --
---   VectorPasses            the vector v passes: allowed entries, orthogonal to every row of D modulo p, not zero if that is excluded
---   Passing           x is a list of s vectors that pass
+--   Orthogonal        the vector v is orthogonal to every row of D modulo p
+--   Passing           x is a list of s vectors that are
 --   Wrong             D is not 0 modulo p in row i, column j
 --   wrong-of-small    an entry of D that is not 0 and less than p in size is not 0 modulo p
 --   one-column        two passing lists that agree but in the wrong column are equal
@@ -31,16 +29,15 @@ use Rattle.residue.specs.Laws.Counting.{AtMost, Different, at-most-through, at-
 use Rattle.algebra.specs.Rules.{sumℤ}
 use Rattle.algebra.specs.Laws.IntegerSums.{sumℤ-cong, residue-dot}
 use Rattle.algebra.specs.Laws.Positions.{by-rows}
-use Rattle.algebra.specs.Laws.Vectors.{without, without-apart, without-word, word-of-entries, cut, cut-word, cut-apart}
+use Rattle.algebra.specs.Laws.Vectors.{without, without-apart, without-word, word-of-entries, vector-same, cut, cut-word, cut-apart}
+use Rattle.algebra.specs.Laws.Drawn.{DrawnVector, Drawn, drawn-any, drawn-cong}
 
-pub record VectorPasses (p rows n : ℕ) (D : ℕ → ℕ → ℤ) (P : ℕ → Type 0) (nonzero : Bool) (v : ℕ → ℕ) : Type 0 where
-  pub allowed : (k : ℕ) → k < n → P (v k)
-  pub orthogonal : (i : ℕ) → i < rows → leastResidue p (sumℤ n (λ k. D i k *ℤ pos (v k))) ≡ 0
-  pub not-zero : nonzero ≡ true → ((k : ℕ) → k < n → v k ≡ 0) → ⊥
+abbrev pub Orthogonal : (p rows n : ℕ) → (ℕ → ℕ → ℤ) → (ℕ → ℕ) → Type 0
+Orthogonal p rows n D v = (i : ℕ) → i < rows → leastResidue p (sumℤ n (λ k. D i k *ℤ pos (v k))) ≡ 0
 
 pub record Passing (p rows n s : ℕ) (D : ℕ → ℕ → ℤ) (P : ℕ → Type 0) (nonzero : Bool) (x : List ℕ) : Type 0 where
-  pub size : length x ≡ s * n
-  pub vectors : (t : ℕ) → t < s → VectorPasses p rows n D P nonzero (λ k. getD x (t * n + k) 0)
+  pub drawn : Drawn n s P nonzero x
+  pub orthogonal : (t : ℕ) → t < s → Orthogonal p rows n D (λ k. getD x (t * n + k) 0)
 
 pub record Wrong (p rows n : ℕ) (D : ℕ → ℕ → ℤ) (i j : ℕ) : Type 0 where
   pub row : i < rows
@@ -72,7 +69,12 @@ cancel-factor p a x y prime other hx hy e =
         let rest : (y - x) % p ≡ y - x = mod-eq-of-lt (omega arith) in
         ⊎-elim (λ z. absurd (other z)) (λ (z : (y - x) % p ≡ 0). omega arith) (product-zero p a (y - x) prime product)
 
--- a list of n numbers that passes as a vector
+-- a vector that passes
+record VectorPasses (p rows n : ℕ) (D : ℕ → ℕ → ℤ) (P : ℕ → Type 0) (nonzero : Bool) (v : ℕ → ℕ) : Type 0 where
+  drawn : DrawnVector n P nonzero v
+  orthogonal : Orthogonal p rows n D v
+
+-- and one as a list of n numbers
 abbrev Vector : (p rows n : ℕ) → (ℕ → ℕ → ℤ) → (ℕ → Type 0) → Bool → List ℕ → Type 0
 Vector p rows n D P nonzero x = (length x ≡ n) × VectorPasses p rows n D P nonzero (λ k. getD x k 0)
 
@@ -81,35 +83,35 @@ module _ {p rows n : ℕ} {D : ℕ → ℕ → ℤ} {P : ℕ → Type 0} where
       → VectorPasses p rows n D P nonzero v → VectorPasses p rows n D P nonzero w
   passes-cong same a =
       record {
-        allowed = λ k l. subst P (same k l) (a .allowed k l);
+        drawn = drawn-cong same (a .drawn);
         orthogonal = λ i l. ap (leastResidue p)
             (sumℤ-cong n _ _ (λ k m. ap (λ y. D i k *ℤ pos y) (sym (same k m))))
             ∙ a .orthogonal i l;
-        not-zero = λ e z. a .not-zero e (λ k l. same k l ∙ z k l);
       }
 
   passes-any : {nonzero : Bool} {v : ℕ → ℕ} → VectorPasses p rows n D P nonzero v → VectorPasses p rows n D P false v
-  passes-any a = record { allowed = a .allowed; orthogonal = a .orthogonal; not-zero = λ e. absurd (false≢true e) }
+  passes-any a = record { drawn = drawn-any (a .drawn .allowed); orthogonal = a .orthogonal }
 
   zero-vector : 0 < p → P 0 → Vector p rows n D P false (replicate n 0)
   zero-vector above zero-allowed = (
     length-replicate n 0,
     passes-cong (λ k l. sym (getD-replicate n k 0 0 l))
         record {
-          allowed = λ k l. zero-allowed;
+          drawn = drawn-any (λ k l. zero-allowed);
           orthogonal = λ i l. residue-dot p above n (D i) (λ k. 0)
               ∙ ap (λ m. m % p) (sum-zero n _ (λ k m. mul-zero (leastResidue p (D i k)))) ∙ zero-mod p;
-          not-zero = λ e. absurd (false≢true e);
         },
   )
 
   -- vector t of a passing list
+  vector-passes : {s : ℕ} {nonzero : Bool} {x : List ℕ} → Passing p rows n s D P nonzero x
+      → (t : ℕ) → t < s → VectorPasses p rows n D P nonzero (λ k. getD x (t * n + k) 0)
+  vector-passes a t l = record { drawn = a .drawn .vectors t l; orthogonal = a .orthogonal t l }
+
   passing-vector : {s : ℕ} {nonzero : Bool} {x : List ℕ} → Passing p rows n s D P nonzero x
       → (t : ℕ) → t < s → Vector p rows n D P nonzero (take n (drop (t * n) x))
-  passing-vector {x} a t l = (
-    length-take-le n (drop (t * n) x) (omega (arith, length-drop (t * n) x, mul-le-mul-right n l)),
-    passes-cong (λ k m. sym (getD-take n (drop (t * n) x) k 0 m ∙ getD-drop (t * n) x k 0)) (a .vectors t l),
-  )
+  passing-vector {s} {x} a t l =
+      let same = vector-same n s x (a .drawn .size) t l in (same .0, passes-cong (same .1) (vector-passes a t l))
 
 module _ {p rows n : ℕ} {D : ℕ → ℕ → ℤ} {P : ℕ → Type 0} (prime : Prime p) (residues : (a : ℕ) → P a → a < p)
     {i j : ℕ} (wrong : Wrong p rows n D i j) where
@@ -118,8 +120,8 @@ module _ {p rows n : ℕ} {D : ℕ → ℕ → ℤ} {P : ℕ → Type 0} (prime 
       → ((k : ℕ) → k < n → (k ≡ j → ⊥) → v k ≡ w k) → v j ≡ w j
   entry-determined {v} {w} a b agree =
       cancel-factor p (d j) (v j) (w j) prime (λ z. wrong .not-zero (sym (mod-eq-of-lt (residue-below p above (D i j))) ∙ z))
-      (residues (v j) (a .allowed j (wrong .column)))
-      (residues (w j) (b .allowed j (wrong .column)))
+      (residues (v j) (a .drawn .allowed j (wrong .column)))
+      (residues (w j) (b .drawn .allowed j (wrong .column)))
       (mod-of-multiples p (d j * v j) (d j * w j) (sum n (λ k. d k * w k) / p) (sum n (λ k. d k * v k) / p)
       (omega (
         arith,
@@ -145,16 +147,15 @@ module _ {p rows n : ℕ} {D : ℕ → ℕ → ℤ} {P : ℕ → Type 0} (prime 
       → Passing p rows n s D P nonzero x → Passing p rows n s D P nonzero y
       → ((t k : ℕ) → t < s → k < n → (k ≡ j → ⊥) → getD x (t * n + k) 0 ≡ getD y (t * n + k) 0) → x ≡ y
   one-column {s} {x} {y} a b agree =
-      let above : 0 < n = omega arith in
-      ext-getD 0 x y (a .size ∙ sym (b .size)) (λ m l. by-rows (λ m. getD x m 0 ≡ getD y m 0) {rows = s} n above
-      (λ t k h. vector-determined (a .vectors t h) (b .vectors t h) (λ k. agree t k h) k) m (omega arith))
+      ext-getD 0 x y (a .drawn .size ∙ sym (b .drawn .size)) (λ m l. by-rows (λ m. getD x m 0 ≡ getD y m 0) {rows = s} n
+      (λ t k h. vector-determined (vector-passes a t h) (vector-passes b t h) (λ k. agree t k h) k) m (omega arith))
 
   module _ {b : ℕ} (most : AtMost P b) where
     all-vectors-at-most : AtMost (Vector p rows n D P false) (b ^ (n - 1))
     all-vectors-at-most =
         at-most-through (at-most-words most (n - 1)) (without j)
         (λ x v. without-word P (n - 1) j x (omega arith)
-        (word-of-entries P (suc (n - 1)) x (omega arith) (λ k l. v .1 .allowed k (omega arith))))
+        (word-of-entries P (suc (n - 1)) x (omega arith) (λ k l. v .1 .drawn .allowed k (omega arith))))
         (λ x y v w e. ext-getD 0 x y (v .0 ∙ sym (w .0)) (λ k l. vector-determined (v .1) (w .1)
         (λ k l. without-apart j x y (v .0 ∙ sym (w .0)) e k) k (omega arith)))
 
@@ -165,7 +166,7 @@ module _ {p rows n : ℕ} {D : ℕ → ℕ → ℤ} {P : ℕ → Type 0} (prime 
         at-most-through
         (at-most-but-one all-vectors-at-most (replicate n 0) (zero-vector (prime-positive prime) (zero-allowed refl)))
         (λ x. x)
-        (λ x v. ((v .0, passes-any (v .1)), λ e. v .1 .not-zero refl (λ k l. ap (λ y. getD y k 0) e ∙ getD-replicate n k 0 0 l)))
+        (λ x v. ((v .0, passes-any (v .1)), λ e. v .1 .drawn .not-zero refl (λ k l. ap (λ y. getD y k 0) e ∙ getD-replicate n k 0 0 l)))
         (λ x y v w e. e)
 
     pub passing-at-most : (s : ℕ) (nonzero : Bool) → (nonzero ≡ true → P 0)
@@ -173,7 +174,7 @@ module _ {p rows n : ℕ} {D : ℕ → ℕ → ℤ} {P : ℕ → Type 0} (prime 
     passing-at-most s nonzero zero-allowed =
         at-most-through (at-most-words (vectors-at-most nonzero zero-allowed) s) (cut n s)
         (λ x a. cut-word (Vector p rows n D P nonzero) n s x (passing-vector a))
-        (λ x y a c. cut-apart n s x y (a .size) (c .size))
+        (λ x y a c. cut-apart n s x y (a .drawn .size) (c .drawn .size))
 
     pub passing-count : (s : ℕ) (nonzero : Bool) → (nonzero ≡ true → P 0)
         → (xs : List (List ℕ)) → ((m : ℕ) → m < length xs → Passing p rows n s D P nonzero (getD xs m [])) → Different [] xs

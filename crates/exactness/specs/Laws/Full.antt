@@ -81,7 +81,7 @@ module _ (G : Setting) (t : List ℕ) where
   -- every claim before the first untrue one holds
   holds-before : {i j : ℕ} → FirstUntrue G t i j → (c : ℕ) → c < i * G .columns + j → holds G t c ≡ true
   holds-before {i} {j} u c l =
-      by-rows (λ c. c < i * G .columns + j → holds G t c ≡ true) {rows = i + 1} (G .columns) (some-column (u .ticket))
+      by-rows (λ c. c < i * G .columns + j → holds G t c ≡ true) {rows = i + 1} (G .columns)
       (λ k m row column below. holds-exactly k m column .1 (elim (ℕ-discrete k i) [
         | yes e ↦ rw e (u .columns-before m (omega (arith, ap (λ n. n * G .columns) e)))
         | no d ↦ u .rows-before k m (omega arith) column
@@ -93,7 +93,7 @@ module _ (G : Setting) (t : List ℕ) where
   fails {i} u = rw (digits-div i (u .column-within), digits-mod i (u .column-within)) (same-other _ _ (u .untrue-here))
 
   all-hold : AllTrue G t → (c : ℕ) → c < G .rows * G .columns → holds G t c ≡ true
-  all-hold a = by-rows (λ c. holds G t c ≡ true) (G .columns) (some-column (a .ticket)) (λ i j l m. holds-exactly i j m .1 (a .claims i j l m))
+  all-hold a = by-rows (λ c. holds G t c ≡ true) (G .columns) (λ i j l m. holds-exactly i j m .1 (a .claims i j l m))
 
   pub full-answer-of : {a : Answer} → FullAnswered G t a → fullCheck G t ≡ a
   unfolding fullCheck fullVerdict

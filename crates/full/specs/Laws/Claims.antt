@@ -105,7 +105,7 @@ module _ {G : Setting} {t : List ℕ} (passed : Passed G t) where
     unfolding fullVerdict
     sums-verdict =
         let S = sumSteps G A B y in
-        let alike = by-rows (λ c. S .holds c ≡ holds G t c) (G .columns) (passed .counts .sizes .columns .0) test-alike in
+        let alike = by-rows (λ c. S .holds c ≡ holds G t c) (G .columns) test-alike in
         scan-cong (G .rows * G .columns) _ _ (untrue G) _ alike ∙ ap (λ n. scan (G .rows * G .columns) (holds G t) (untrue G) (answer 0 0 0 n)) (omega arith)
 
 -- the whole check

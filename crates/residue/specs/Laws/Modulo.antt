@@ -10,8 +10,9 @@
 --   carried-low, carried-high   it for v in the lower half, and in the upper, where the sum passes p
 --   carried-sum        it is the sum modulo p, where that and s are in the lower half; p is odd and has at most 31 bits
 --   pow-pow            a power of a power
+--   factor-positive    a product that is above some number has no factor 0
 use Prim.Native.Nat.{ℕ, zero, suc, _+_, _-_, _*_, _/_, _%_, _^_, _≤_, _<_}
-use native.Mathlib.Nat.{add-mul-mod-self-left, div-add-mod, div-eq-of-lt, div-eq-of-lt-le, mod-eq-of-lt, mod-add-mod, mod-eq-sub-mod, mul-comm, pow-zero, pow-suc, zero-mul, suc-mul}
+use native.Mathlib.Nat.{add-mul-mod-self-left, div-add-mod, div-eq-of-lt, div-eq-of-lt-le, mod-eq-of-lt, mod-add-mod, mod-eq-sub-mod, mul-comm, pow-zero, pow-suc, zero-mul, suc-mul, mul-zero}
 use native.Mathlib.Decide.{decLt}
 use native.Mathlib.Omega.{arith}
 use mathlib.Core.Path.{_≡_, sym, ap, _∙_}
@@ -76,3 +77,7 @@ pub pow-pow : (b m s : ℕ) → (b ^ m) ^ s ≡ b ^ (s * m)
 pow-pow b m zero = pow-zero (b ^ m) ∙ sym (ap (λ n. b ^ n) (zero-mul m) ∙ pow-zero b)
 pow-pow b m (suc s) =
     pow-suc (b ^ m) s ∙ ap (λ n. n * b ^ m) (pow-pow b m s) ∙ sym (ap (λ n. b ^ n) (suc-mul s m) ∙ pow-add b (s * m) m)
+
+pub factor-positive : (a c n : ℕ) → n < a * c → 0 < c
+factor-positive a zero n h = absurd (omega (arith, mul-zero a))
+factor-positive a (suc c) n h = omega arith

@@ -9,13 +9,16 @@
 --   one-accepted            of two lists that differ only in a column in which the ticket is false, not both are accepted (C3)
 --   accepted-at-most        with a false ticket at most p^(s(n - 1)) different lists are accepted (C4)
 --   accepted-exactly-well-formed   with a true ticket a list is accepted exactly when it is well formed (C5)
+--   accepted-all-or-few     with every ticket that passes, one of the two (C7)
 --   accepted-share          the lists accepted with a false ticket, times p^s, are at most p^(sn) (C6)
---   well-formed-at-most     at most p^(sn) different lists are well formed (C6)
+--   well-formed-exactly     exactly p^(sn) lists are well formed (C6)
+--   well-formed-at-most     different well-formed lists are at most so many (C6)
+--   well-formed-reached     and some are so many (C6)
 use Prim.Native.Nat.{ℕ, _+_, _-_, _*_, _^_, _≤_, _<_}
 use native.Mathlib.Nat.{mul-le-mul-right}
 use native.Mathlib.Omega.{arith}
-use mathlib.Core.Path.{_≡_, sym, ap, _∙_}
-use mathlib.Core.Logic.{_↔_}
+use mathlib.Core.Path.{_≡_, refl, sym, ap, _∙_}
+use mathlib.Core.Logic.{_⊎_, inl, inr, ⊎-elim, _↔_}
 use mathlib.Core.Bool.{true, false, false≢true}
 use mathlib.Core.List.{List, []}
 use borrow.Author.Tests.{eqb-true, eq-eqb}
@@ -25,16 +28,17 @@ use lib.ListN.{length, getD}
 use lib.Pow.{pow-add}
 use Rattle.residue.specs.Rules.{modulus, leastResidue}
 use Rattle.residue.specs.Laws.Modulus.{modulus-prime, modulus-positive}
-use Rattle.residue.specs.Laws.Counting.{Different, at-most-below, at-most-words, at-most-through, at-most-members}
+use Rattle.residue.specs.Laws.Counting.{Exactly, Different, at-most-below, at-most-members, exactly-below, exactly-through, exactly-members}
 use Rattle.algebra.specs.Rules.{sumℤ, matrixProduct}
 use Rattle.algebra.specs.Laws.IntegerSums.{sumℤ-cong}
 use Rattle.algebra.specs.Laws.MatrixProducts.{product-through, row-balances}
-use Rattle.algebra.specs.Laws.Vectors.{word-of-entries}
+use Rattle.algebra.specs.Laws.Positions.{by-rows}
+use Rattle.algebra.specs.Laws.Drawn.{Drawn, drawn-any, drawn-exactly, drawn-with-zero}
 use Rattle.algebra.specs.Laws.Soundness.{Passing, Wrong, wrong-of-small, one-column, passing-count, bound-with-zero}
 use Rattle.ticket.specs.declared.setting.Setting.{Setting}
 use Rattle.ticket.specs.Rules.{Passes, claim, due, entryA, entryB, FalseIn}
 use Rattle.ticket.specs.Laws.Passes.{passed-of}
-use Rattle.ticket.specs.Laws.Differences.{due-is, exactSum-is, claims-close, claims-true}
+use Rattle.ticket.specs.Laws.Differences.{due-is, exactSum-is, claims-close, claims-true, ticket-decided}
 use Rattle.challenge.specs.Rules.{challengeAt, WellFormed, productB, claimSide, operandSide, balanced, Accepted, DifferIn}
 use Rattle.challenge.specs.Laws.Lists.{well-formed-is}
 use Rattle.soundness.specs.Laws.Answers.{AllBalanced, accepted-exactly, accepted-number}
@@ -72,19 +76,19 @@ balanced-is G t x τ i = (
         ↔ (leastResidue modulus (sumℤ (G .columns) (λ j. difference G t i j *ℤ pos (challengeAt G x τ j))) ≡ 0)
     rows = row-balances modulus modulus-positive (G .columns) (claim G t i) (due G t i) (challengeAt G x τ)
 
+well-formed-drawn : (G : Setting) (x : List ℕ) → WellFormed G x ↔ Drawn (G .columns) (G .vectors) (λ a. a < modulus) false x
+well-formed-drawn G x = (
+  λ w. let entries = well-formed-is G x .0 w in
+      record { size = entries .size; vectors = λ τ l. drawn-any (λ k m. entries .below (τ * G .columns + k) (digits-lt l m)) },
+  λ d. well-formed-is G x .1
+      record { size = d .size; below = by-rows (λ k. getD x k 0 < modulus) (G .columns) (λ τ k l m. d .vectors τ l .allowed k m) },
+)
+
 pub accepted-pass : (G : Setting) (t : List ℕ) → Passes G t → (x : List ℕ) → Accepted G t x
     → Passing modulus (G .rows) (G .columns) (G .vectors) (difference G t) (λ a. a < modulus) false x
 accepted-pass G t passes x e =
     let h = accepted-is G t passes x .0 e in
-    let entries = well-formed-is G x .0 (h .0) in
-    record {
-      size = entries .size;
-      vectors = λ τ l. record {
-        allowed = λ k m. entries .below (τ * G .columns + k) (digits-lt l m);
-        orthogonal = λ i m. balanced-is G t x τ i .0 (h .1 τ i l m);
-        not-zero = λ n. absurd (false≢true n);
-      };
-    }
+    record { drawn = well-formed-drawn G x .0 (h .0); orthogonal = λ τ l i m. balanced-is G t x τ i .0 (h .1 τ i l m) }
 
 pub false-wrong : (G : Setting) (t : List ℕ) → Passes G t → (j : ℕ) (column : FalseIn G t j)
     → Wrong modulus (G .rows) (G .columns) (difference G t) (column .1 .0) j
@@ -129,6 +133,15 @@ accepted-exactly-well-formed G t passes none x = (
   λ w. accepted-is G t passes x .1 (w, true-balanced G t none x),
 )
 
+pub accepted-all-or-few : (G : Setting) (t : List ℕ) → Passes G t → ((x : List ℕ) → Accepted G t x ↔ WellFormed G x)
+    ⊎ ((xs : List (List ℕ)) → Different [] xs → ((k : ℕ) → k < length xs → Accepted G t (getD xs k []))
+    → length xs ≤ modulus ^ (G .vectors * (G .columns - 1)))
+accepted-all-or-few G t passes =
+    ⊎-elim
+    (λ none. inl (accepted-exactly-well-formed G t passes none))
+    (λ column. inr (accepted-at-most G t passes (column .0) (column .1)))
+    (ticket-decided G t)
+
 pub accepted-share : (G : Setting) (t : List ℕ) → Passes G t → (j : ℕ) → FalseIn G t j → (xs : List (List ℕ)) → Different [] xs
     → ((k : ℕ) → k < length xs → Accepted G t (getD xs k []))
     → length xs * modulus ^ G .vectors ≤ modulus ^ (G .vectors * G .columns)
@@ -140,11 +153,18 @@ accepted-share G t passes j column xs different all =
     rw (← exponent, pow-add modulus (G .vectors * (G .columns - 1)) (G .vectors))
     (mul-le-mul-right (modulus ^ G .vectors) (accepted-at-most G t passes j column xs different all))
 
+pub well-formed-exactly : (G : Setting) → Exactly (WellFormed G) (modulus ^ (G .vectors * G .columns))
+well-formed-exactly G =
+    rw (drawn-with-zero modulus (G .columns) (G .vectors)) at
+    (exactly-through (drawn-exactly (exactly-below modulus) (G .vectors) false (λ e. absurd (false≢true e))) (λ x. x) (λ x. x)
+    (λ x w. well-formed-drawn G x .0 w)
+    (λ x y v w e. e)
+    (λ x d. (well-formed-drawn G x .1 d, refl)))
+
 pub well-formed-at-most : (G : Setting) (xs : List (List ℕ)) → Different [] xs
     → ((k : ℕ) → k < length xs → WellFormed G (getD xs k [])) → length xs ≤ modulus ^ (G .vectors * G .columns)
-well-formed-at-most G xs different all =
-    at-most-members
-    (at-most-through {Q = WellFormed G} (at-most-words (at-most-below modulus) (G .vectors * G .columns)) (λ x. x)
-    (λ x w. let entries = well-formed-is G x .0 w in word-of-entries _ _ x (entries .size) (entries .below))
-    (λ x y v w e. e))
-    [] xs all different
+well-formed-at-most G xs different all = at-most-members (well-formed-exactly G .most) [] xs all different
+
+pub well-formed-reached : (G : Setting) → (xs : List (List ℕ)) × (length xs ≡ modulus ^ (G .vectors * G .columns)) × Different [] xs
+    × ((k : ℕ) → k < length xs → WellFormed G (getD xs k []))
+well-formed-reached G = exactly-members (well-formed-exactly G) []

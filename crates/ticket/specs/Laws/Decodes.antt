@@ -140,7 +140,7 @@ module _ {G : Setting} {t : List ℕ} (passed : Passed G t) where
         record {
           long = omega (arith, filled .long);
           entry = entry-shifted;
-          small = by-rows (λ k. getD a k 0 < 2 ^ 16) (G .inner) (omega (arith, passed .counts .sizes .inner)) (λ i k l m.
+          small = by-rows (λ k. getD a k 0 < 2 ^ 16) (G .inner) (λ i k l m.
               omega (arith, shifted-most (G .bound) (entryA G t i k) (entry-shifted i k l m) (size-entryA passed i k l m), passed .numbers .bound));
         }
 

@@ -12,6 +12,7 @@
 --   residue-entryA, residue-entryB, residue-quotient, residue-remainder   a record's value is the least residue of what it stands for
 --   claim-decided              a claim is true or untrue
 --   claims-true                a ticket that is false in no column has every claim true
+--   ticket-decided             a ticket is false in no column, or in some column (C7)
 use Prim.Native.Nat.{ℕ, _+_, _*_, _/_, _%_, _^_, _≤_, _<_}
 use native.Mathlib.Nat.{div-add-mod, mul-le-mul-left}
 use native.Mathlib.Omega.{arith}
@@ -29,6 +30,7 @@ use Rattle.algebra.specs.Laws.IntegerSums.{size-sum, size-difference, size-prod
 use Rattle.algebra.specs.Laws.MatrixProducts.{size-matrixProduct}
 use Rattle.ticket.specs.declared.setting.Setting.{Setting}
 use Rattle.ticket.specs.Rules.{reach, halfRange, isEntry, shiftedQuotient, parts, part, ofA, ofB, ofQuotients, ofRemainders, valueIn, entryA, entryB, quotient, remainder, claim, exactSum, due, Untrue, FalseIn}
+use Rattle.ticket.specs.Laws.First.{all-or-first}
 use Rattle.ticket.specs.Laws.Limits.{half-double}
 use Rattle.ticket.specs.Laws.Passes.{Passed, valid}
 
@@ -120,6 +122,16 @@ claim-decided G t i j = elim (ℤ-discrete (claim G t i j) (due G t i j)) [ yes 
 pub claims-true : (G : Setting) (t : List ℕ) → ((j : ℕ) → FalseIn G t j → ⊥)
     → (i j : ℕ) → i < G .rows → j < G .columns → claim G t i j ≡ due G t i j
 claims-true G t none i j l m = ⊎-elim (λ e. e) (λ d. absurd (none j (m, (i, l, d)))) (claim-decided G t i j)
+
+pub ticket-decided : (G : Setting) (t : List ℕ) → ((j : ℕ) → FalseIn G t j → ⊥) ⊎ ((j : ℕ) × FalseIn G t j)
+ticket-decided G t =
+    ⊎-elim
+    (λ columns. inl (λ j false-in. false-in .1 .2 (columns j (false-in .0) (false-in .1 .0) (false-in .1 .1))))
+    (λ o. inr (o .0, (o .1, o .3)))
+    (all-or-first column-decided (G .columns))
+  where
+    column-decided : (j : ℕ) → ((i : ℕ) → i < G .rows → claim G t i j ≡ due G t i j) ⊎ ((i : ℕ) × (i < G .rows) × Untrue G t i j)
+    column-decided j = ⊎-elim inl (λ o. inr (o .0, o .1, o .3)) (all-or-first (λ i. claim-decided G t i j) (G .rows))
 
 pub exactSum-is : (G : Setting) (A B : ℕ → ℕ → ℤ) (i j : ℕ) → exactSum G A B i j ≡ matrixProduct (G .inner) A B i j
 unfolding exactSum

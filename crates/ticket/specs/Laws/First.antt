@@ -8,13 +8,14 @@
 --   first-within   it is at most n
 --   first-before   before it the test holds
 --   first-at       at it the test fails, where it is below n
+--   all-or-first   where each number has P or N, all below n have P, or a first one has N
 --   FirstFailure n f i, holds-or-first   either the test holds everywhere below n, or i is that place
 use Rattle.ticket.specs.Rules.{first}
 use Prim.Native.Nat.{ℕ, zero, suc, _+_, _-_, _≤_, _<_}
 use native.Mathlib.Decide.{ℕ-discrete, decLe}
 use native.Mathlib.Omega.{arith}
 use mathlib.Core.Logic.{_⊎_, inl, inr, ⊎-elim}
-use mathlib.Core.Path.{_≡_, refl}
+use mathlib.Core.Path.{_≡_, refl, sym, subst}
 use mathlib.Core.Bool.{Bool, true, false}
 
 pub first-none : (n : ℕ) (f : ℕ → Bool) → ((k : ℕ) → k < n → f k ≡ true) → first n f ≡ n
@@ -45,16 +46,22 @@ pub record FirstFailure (n : ℕ) (f : ℕ → Bool) (i : ℕ) : Type 0 where
   pub before : (k : ℕ) → k < i → f k ≡ true
   pub fails : f i ≡ false
 
-pub holds-or-first : (n : ℕ) (f : ℕ → Bool) → ((k : ℕ) → k < n → f k ≡ true) ⊎ ((i : ℕ) × FirstFailure n f i)
-holds-or-first zero f = inl (λ k l. absurd (omega arith))
-holds-or-first (suc n) f =
+-- where each number has P or has N, all below n have P, or there is a first one that has N
+pub all-or-first : {P N : ℕ → Type 0} → ((k : ℕ) → P k ⊎ N k) → (n : ℕ)
+    → ((k : ℕ) → k < n → P k) ⊎ ((i : ℕ) × (i < n) × ((k : ℕ) → k < i → P k) × N i)
+all-or-first decided zero = inl (λ k l. absurd (omega arith))
+all-or-first {P} decided (suc n) =
     ⊎-elim
     (λ h. ⊎-elim
-    (λ e. inl (λ k l. elim (ℕ-discrete k n) [ yes d ↦ rw d e | no d ↦ h k (omega arith) ]))
-    (λ e. inr (n, record { within = omega arith; before = h; fails = e }))
-    (true-or-false (f n)))
-    (λ o. inr (o .0, record { within = omega (arith, o .1 .within); before = o .1 .before; fails = o .1 .fails }))
-    (holds-or-first n f)
+    (λ p. inl (λ k l. elim (ℕ-discrete k n) [ yes d ↦ subst P (sym d) p | no d ↦ h k (omega arith) ]))
+    (λ q. inr (n, omega arith, h, q))
+    (decided n))
+    (λ o. let within : o .0 < n = o .1 in inr (o .0, omega arith, o .2, o .3))
+    (all-or-first decided n)
+
+pub holds-or-first : (n : ℕ) (f : ℕ → Bool) → ((k : ℕ) → k < n → f k ≡ true) ⊎ ((i : ℕ) × FirstFailure n f i)
+holds-or-first n f =
+    ⊎-elim inl (λ o. inr (o .0, record { within = o .1; before = o .2; fails = o .3 })) (all-or-first (λ k. true-or-false (f k)) n)
 
 module _ (n : ℕ) (f : ℕ → Bool) where
   -- the first place is n, and the test holds below it, or it is one at which the test fails first
