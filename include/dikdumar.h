@@ -79,7 +79,7 @@ typedef struct {
     uint32_t number;   /* what was found, 0 to 16 */
     uint32_t place;    /* where, by the number; the length of a written ticket */
     uint32_t row;      /* the row that was caught, from 0, else 0 */
-    uint32_t products; /* the products made; 0 but for numbers 0, 12 and 16 */
+    uint32_t products; /* the products counted, else 0 */
 } dikdumar_answer;
 
 /*
@@ -101,29 +101,28 @@ typedef struct {
  * such list. A false one passes only where its errors cancel, so the list is to
  * be drawn at random once the ticket is fixed.
  *
- *     number  meaning                                        place
- *        0    accepted                                       0
- *        1    l, m, n or s outside its limits                0
- *        2    a, T or v outside its limits                   0
- *        3    the setting does not fit                       0
- *        4    ticket_length is not 8*(l*m + m*n + 2*l*n)     0
- *        5    kind, zero byte, row or column unexpected      record
- *        6    value of p or more                             record
- *        7    entry of A or B beyond T                       record
- *        8    quotient outside -2^(v-1) to 2^(v-1) - 1       record
- *        9    remainder of a or more                         record
- *       10    list_length is not s*n                         0
- *       11    list number of p or more                       its index
- *       12    caught: the two sides of a row are unequal     vector t
+ *     number  meaning                                    place
+ *        0    accepted                                   0
+ *        1    l, m, n or s outside its limits            0
+ *        2    a, T or v outside its limits               0
+ *        3    the setting does not fit                   0
+ *        4    ticket's length not 8*(l*m + m*n + 2*l*n)  0
+ *        5    kind, zero byte, row or column unexpected  record
+ *        6    value of p or more                         record
+ *        7    entry of A or B below -T or above T        record
+ *        8    quotient not from -2^(v-1) to 2^(v-1) - 1  record
+ *        9    remainder of a or more                     record
+ *       10    list's length not s*n                      0
+ *       11    list number of p or more                   index in the list
+ *       12    caught: the two sides of a row differ      vector t
  *
  * The first test that fails decides: 1 to 4 in order, then record after record
  * each by 5, 6 and its own range, then 10, 11 and 12. Records are counted from 0
  * over the whole ticket. Row and products are 0 except in these answers:
  *
- *     accepted                     products s*(m*n + l*n + l*m)
- *     caught in vector t, row i    row i,
- *                                  products t*(m*n + l*n + l*m)
- *                                           + m*n + (i + 1)*(n + m)
+ *     number  row    products
+ *        0    0      s*(m*n + l*n + l*m)
+ *       12    row i  t*(m*n + l*n + l*m) + m*n + (i + 1)*(n + m)
  *
  * ticket lends ticket_length bytes and list lends list_length numbers. Both are
  * read only, and only during the call; with a length of 0 nothing is read, but
@@ -141,17 +140,26 @@ dikdumar_answer dikdumar_challenge_check(dikdumar_setting setting,
  * true tickets and no other: each quotient is the floor of its sum over the
  * scale (rounded down, also below zero), and each remainder what is left.
  *
- *     number  meaning                                        place
- *        0    accepted                                       0
- *      1-9    as in the challenge check                      as there
- *       16    untrue claim, at row i, column j               i*n + j
+ *     number  meaning                                    place
+ *        0    accepted                                   0
+ *        1    l, m, n or s outside its limits            0
+ *        2    a, T or v outside its limits               0
+ *        3    the setting does not fit                   0
+ *        4    ticket's length not 8*(l*m + m*n + 2*l*n)  0
+ *        5    kind, zero byte, row or column unexpected  record
+ *        6    value of p or more                         record
+ *        7    entry of A or B below -T or above T        record
+ *        8    quotient not from -2^(v-1) to 2^(v-1) - 1  record
+ *        9    remainder of a or more                     record
+ *       16    untrue claim, at row i, column j           i*n + j
  *
  * The first test that fails decides: 1 to 9 as in the challenge check, then 16,
- * row by row. s is tested with the rest of the setting, and not used. Row is
- * always 0. Products are 0 except in these answers:
+ * row by row. s is tested with the rest of the setting, and not used. Row and
+ * products are 0 except in these answers:
  *
- *     accepted                     products l*m*n
- *     untrue claim at i, j         products m*(i*n + j + 1)
+ *     number  row  products
+ *        0    0    l*m*n
+ *       16    0    m*(i*n + j + 1)
  *
  * ticket lends ticket_length bytes. They are read only, and only during the
  * call; with a length of 0 nothing is read, but the pointer is to be a valid one
@@ -170,22 +178,24 @@ dikdumar_answer dikdumar_full_check(dikdumar_setting setting,
  * zero), each remainder what is left. The full check accepts the ticket, and the
  * challenge check does with every list of s*n least residues.
  *
- *     number  meaning                                        place
- *        0    written                                        ticket's length
- *        1    l, m, n or s outside its limits                0
- *        2    a, T or v outside its limits                   0
- *        3    the setting does not fit                       0
- *       13    a_length is not l*m, or b_length not m*n       0 for A, 1 for B
- *       14    number of A or B below -T or above T           index in A, then B
- *       15    output_length is below the ticket's length     0
+ *     number  meaning                                    place
+ *        0    written                                    8*(l*m + m*n + 2*l*n)
+ *        1    l, m, n or s outside its limits            0
+ *        2    a, T or v outside its limits               0
+ *        3    the setting does not fit                   0
+ *       13    length of A not l*m, or of B not m*n       0 for A, 1 for B
+ *       14    number of A or B below -T or above T       index in A, then B
+ *       15    output shorter than the ticket             0
  *
- * The ticket's length is 8*(l*m + m*n + 2*l*n), in bytes. The index of a number
- * of B is counted on from A: the first is l*m.
+ * The place of 0 is the ticket's length in bytes. The index of a number of B is
+ * counted on from A: the first is l*m.
  *
  * The first test that fails decides: 1, 2, 3, 13 for A, 13 for B, 14 from the
  * first number on, 15. s is tested with the rest of the setting, and not used.
- * Row is always 0. Products are l*m*n where the ticket is written, and 0 in
- * every refusal.
+ * Row and products are 0 except in this answer:
+ *
+ *     number  row  products
+ *        0    0    l*m*n
  *
  * Where the number is 0, the output past the ticket's length stays as it is.
  * Where it is another, no byte of the output is changed.

@@ -2,48 +2,41 @@
 
 /// The answer of a check or of the writer.
 ///
-/// | number | meaning | place | given by |
-/// |---|---|---|---|
-/// | 0 | accepted, or written | 0, or the ticket's length in bytes | all |
-/// | 1 | ℓ, m, n or s outside its limits | 0 | all |
-/// | 2 | α, T or v outside its limits | 0 | all |
-/// | 3 | the setting does not fit | 0 | all |
-/// | 4 | wrong ticket length | 0 | both checks |
-/// | 5 | kind, zero byte, row or column unexpected | record | both checks |
-/// | 6 | value of p or more | record | both checks |
-/// | 7 | entry of A or B beyond T | record | both checks |
-/// | 8 | quotient not from -2^(v-1) to 2^(v-1) - 1 | record | both checks |
-/// | 9 | remainder of α or more | record | both checks |
-/// | 10 | list length not s·n | 0 | challenge check |
-/// | 11 | list number of p or more | its index in the list | challenge check |
-/// | 12 | caught: a claim is untrue | vector t | challenge check |
-/// | 13 | operand length wrong | 0 for A, 1 for B | writer |
-/// | 14 | operand beyond T | its index in A then B | writer |
-/// | 15 | output too short | 0 | writer |
-/// | 16 | untrue claim | i·n + j | full check |
-///
-/// The products are counted in these answers, and 0 in every other:
-///
-/// | answer | products |
-/// |---|---|
-/// | accepted by the challenge check | s(mn + ℓn + ℓm) |
-/// | caught in vector t, row i | t(mn + ℓn + ℓm) + mn + (i + 1)(n + m) |
-/// | accepted by the full check, or written | ℓmn |
-/// | untrue claim at row i, column j | m(i·n + j + 1) |
+/// | number | meaning | place | row | products | given by |
+/// |---|---|---|---|---|---|
+/// | 0 | accepted | 0 | 0 | s(mn + ℓn + ℓm) | challenge check |
+/// | 0 | accepted | 0 | 0 | ℓmn | full check |
+/// | 0 | written | 8(ℓm + mn + 2ℓn) | 0 | ℓmn | writer |
+/// | 1 | ℓ, m, n or s outside its limits | 0 | 0 | 0 | all calls |
+/// | 2 | α, T or v outside its limits | 0 | 0 | 0 | all calls |
+/// | 3 | the setting does not fit | 0 | 0 | 0 | all calls |
+/// | 4 | ticket's length not 8(ℓm + mn + 2ℓn) | 0 | 0 | 0 | challenge check, full check |
+/// | 5 | kind, zero byte, row or column unexpected | record | 0 | 0 | challenge check, full check |
+/// | 6 | value of p or more | record | 0 | 0 | challenge check, full check |
+/// | 7 | entry of A or B below -T or above T | record | 0 | 0 | challenge check, full check |
+/// | 8 | quotient not from -2^(v-1) to 2^(v-1) - 1 | record | 0 | 0 | challenge check, full check |
+/// | 9 | remainder of α or more | record | 0 | 0 | challenge check, full check |
+/// | 10 | list's length not s·n | 0 | 0 | 0 | challenge check |
+/// | 11 | list number of p or more | index in the list | 0 | 0 | challenge check |
+/// | 12 | caught: the two sides of a row differ | vector t | row i | t(mn + ℓn + ℓm) + mn + (i + 1)(n + m) | challenge check |
+/// | 13 | length of A not ℓm, or of B not mn | 0 for A, 1 for B | 0 | 0 | writer |
+/// | 14 | number of A or B below -T or above T | index in A, then B | 0 | 0 | writer |
+/// | 15 | output shorter than the ticket | 0 | 0 | 0 | writer |
+/// | 16 | untrue claim, at row i, column j | i·n + j | 0 | m(i·n + j + 1) | full check |
 #[repr(C)]
 #[derive(Clone, Copy, Debug, PartialEq, Eq)]
 pub struct Answer {
     /// What was found: 0 when the ticket is accepted, with the list where there
     /// is one, or is written.
     pub number: u32,
-    /// Where it was found, or how long the written ticket is. Records, list
-    /// numbers, vectors, operands and claims count from 0; operands are counted
-    /// on from A into B, claims row by row.
+    /// Where it was found, or how long the written ticket is in bytes. Records,
+    /// list numbers, vectors, operands and claims count from 0; operands are
+    /// counted on from A into B, claims row by row.
     pub place: u32,
     /// The row at which the ticket was caught by the challenge check, from 0; 0
     /// for every other number.
     pub row: u32,
-    /// The products made, as in the table above.
+    /// The products counted.
     pub products: u32,
 }
 

@@ -2,38 +2,35 @@
 
 use dikdumar::Answer;
 
-/// Below comments a line for each number: FORM|MEANING|WHAT TO DO.
+/// Comments, the calls, the names of the columns, then the rows; its comments say
+/// what they hold.
 const TABLE: &str = include_str!("../../../docs/answers.txt");
 
-/// What an answer of a check means, in the table's words, with its own place, row
+/// What an answer of a call means, in the table's words, with its own place, row
 /// and products put in.
-pub fn meaning(check: &str, answer: Answer) -> Option<String> {
-    let [number, place, row, products] = answer.numbers().map(|number| number.to_string());
-    let (meaning, todo) = line(&number)?;
-    let words = match exception(todo, check, &number) {
-        None => meaning.to_string(),
-        Some(words) => {
-            let (verdict, _) = meaning.split_once(": ")?;
-            format!("{verdict}: {words}")
-        }
-    };
-    let words = words.replace("PLACE", &place).replace("ROW", &row);
-    Some(words.replace("PRODUCTS", &products))
+pub fn meaning(call: &str, answer: Answer) -> Option<String> {
+    let [number, fields @ ..] = answer.numbers().map(|number| number.to_string());
+    let mut lines = lines();
+    let names = lines.next()?;
+    let column = |name| names.iter().position(|&column| column == name);
+    let (calls, meaning) = (column("calls")?, column("meaning")?);
+    let row = lines.find(|row| row[0] == number && gives(row[calls], call))?;
+    let mut words = row[meaning].to_string();
+    for (name, field) in names[calls + 1..].iter().zip(fields) {
+        words = words.replace(&name.to_uppercase(), &field);
+    }
+    Some(words)
 }
 
-/// The meaning of a number and what to do about it.
-fn line(number: &str) -> Option<(&'static str, &'static str)> {
-    let line = TABLE.lines().find(|line| line.split(' ').next() == Some(number))?;
-    let (_form, fields) = line.split_once('|')?;
-    fields.split_once('|')
+/// The cells of the names of the columns, then of the rows.
+fn lines() -> impl Iterator<Item = Vec<&'static str>> {
+    let lines = TABLE.lines();
+    let lines = lines.filter(|line| !line.starts_with('#') && !line.starts_with("call|"));
+    lines.map(|line| line.split('|').collect())
 }
 
-/// The words of the sentence `The CHECK's NUMBER: WORDS.`, which is there where the
-/// number means something else of this check. They follow the verdict, in place of
-/// the table's.
-fn exception(todo: &'static str, check: &str, number: &str) -> Option<&'static str> {
-    let (_, words) = todo.split_once(&format!("The {check}'s {number}: "))?;
-    words.split('.').next()
+fn gives(calls: &str, call: &str) -> bool {
+    calls == "all calls" || calls.split(", ").any(|name| name == call)
 }
 
 #[cfg(test)]
@@ -65,26 +62,47 @@ mod tests {
     }
 
     #[test]
-    fn number_0_means_something_else_of_the_full_check() {
-        let [challenge, full] =
-            ["challenge check", "full check"].map(|check| meaning(check, answer([0, 0, 0, 8])).expect("words"));
-        assert_eq!(
-            challenge,
-            "accepted after 8 products: both sides of every row are equal, for every vector"
-        );
-        assert_eq!(full, "accepted after 8 products: every claim is true");
+    fn number_0_means_something_else_of_each_call() {
+        for (call, expected) in [
+            (
+                "challenge check",
+                "accepted after 8 products: both sides of every row are equal, for every vector",
+            ),
+            ("full check", "accepted after 8 products: every claim is true"),
+            (
+                "writer",
+                "written after 8 products: the ticket is the first 128 bytes of the output",
+            ),
+        ] {
+            let place = if call == "writer" { 128 } else { 0 };
+            assert_eq!(meaning(call, answer([0, place, 0, 8])).as_deref(), Some(expected));
+        }
     }
 
     #[test]
-    fn every_line_of_the_table_has_words_and_no_other_number_has() {
-        let lines = TABLE.lines().filter(|line| !line.starts_with('#'));
-        for (number, line) in (0..).zip(lines) {
-            let words = meaning("challenge check", answer([number, 1, 2, 3])).expect("words");
-            assert!(line.starts_with(&format!("{number} ")));
-            assert!(!["PLACE", "ROW", "PRODUCTS", "|"]
-                .iter()
-                .any(|word| words.contains(word)));
-            assert!(meaning("challenge check", answer([number + 1000, 1, 2, 3])).is_none());
+    fn a_number_that_a_call_does_not_give_has_no_words() {
+        for (call, number) in [
+            ("full check", 10),
+            ("challenge check", 16),
+            ("writer", 4),
+            ("check", 0),
+            ("full check", 1000),
+        ] {
+            assert_eq!(meaning(call, answer([number, 0, 0, 0])), None, "{call}, {number}");
+        }
+    }
+
+    #[test]
+    fn every_row_has_words_of_its_calls() {
+        for row in lines().skip(1) {
+            let number = row[0].parse().expect("a number");
+            let calls = row[1].replace("all calls", "challenge check, full check, writer");
+            for call in calls.split(", ") {
+                let words = meaning(call, answer([number, 1, 2, 3])).expect("words");
+                assert!(!["PLACE", "ROW", "PRODUCTS", "|"]
+                    .iter()
+                    .any(|word| words.contains(word)));
+            }
         }
     }
 }
