@@ -2,11 +2,18 @@
  * The layer ticket and its checker: residue arithmetic modulo p = 2147483647
  * (a prime, 2^31 - 1), the challenge check, the full check, the ticket writer.
  *
- * Every call takes every number, whatever its value, and every byte; nothing is
- * undefined, and nothing is written anywhere but to the writer's output. A
- * pointer lends as many items as the length beside it says, for reading, or for
- * writing where it is the output. No call keeps anything between calls or uses
- * the heap, so any number of threads may call at once.
+ * A call cannot test this, and asks it of its caller:
+ *
+ * - Each pointer is valid for as many items as the length beside it says: bytes
+ *   of a ticket or an output, numbers of a list or of the operands a and b. NULL
+ *   is taken where that length is 0.
+ * - The writer's output lies apart from its operands, and nothing else writes to
+ *   what is lent, or reads the output, before the call returns.
+ *
+ * With that, nothing is undefined: every call takes every number, whatever its
+ * value, every byte and every length, and returns. It reads no more than is
+ * lent, writes to nothing but the writer's output, keeps nothing between calls
+ * and uses no heap, so any number of threads may call at once.
  *
  * In the residue calls a residue is handed in by any number that is equal to it
  * modulo p: an argument of p or more is reduced first. A residue that is handed
@@ -123,10 +130,6 @@ typedef struct {
  *     number  row    products
  *        0    0      s*(m*n + l*n + l*m)
  *       12    row i  t*(m*n + l*n + l*m) + m*n + (i + 1)*(n + m)
- *
- * ticket lends ticket_length bytes and list lends list_length numbers. Both are
- * read only, and only during the call; with a length of 0 nothing is read, but
- * the pointer is to be a valid one all the same, not NULL.
  */
 dikdumar_answer dikdumar_challenge_check(dikdumar_setting setting,
                                          const uint8_t *ticket, size_t ticket_length,
@@ -160,10 +163,6 @@ dikdumar_answer dikdumar_challenge_check(dikdumar_setting setting,
  *     number  row  products
  *        0    0    l*m*n
  *       16    0    m*(i*n + j + 1)
- *
- * ticket lends ticket_length bytes. They are read only, and only during the
- * call; with a length of 0 nothing is read, but the pointer is to be a valid one
- * all the same, not NULL.
  */
 dikdumar_answer dikdumar_full_check(dikdumar_setting setting,
                                     const uint8_t *ticket, size_t ticket_length);
@@ -199,12 +198,6 @@ dikdumar_answer dikdumar_full_check(dikdumar_setting setting,
  *
  * Where the number is 0, the output past the ticket's length stays as it is.
  * Where it is another, no byte of the output is changed.
- *
- * The pointers a and b lend a_length and b_length numbers, not bytes; output
- * lends output_length bytes, which are to lie apart from those numbers. The
- * numbers are read only, and all is lent only during the call; with a length of
- * 0 nothing is read or written, but the pointer is to be a valid one all the
- * same, not NULL.
  */
 dikdumar_answer dikdumar_write_ticket(dikdumar_setting setting,
                                       const int32_t *a, size_t a_length,

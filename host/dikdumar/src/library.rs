@@ -5,10 +5,8 @@
 //! residue calls, which take numbers alone, are declared safe. Of a pointer the
 //! calls on tickets ask what the header says, and slices promise all of it:
 //!
-//! - The pointer lends as many items as the length beside it says: both are taken
-//!   from one slice.
-//! - It is aligned and not null, also where the length is 0: so is the pointer of
-//!   every slice, of an empty one too.
+//! - The pointer is aligned, and lends as many items as the length beside it says:
+//!   both are taken from one slice. That of an empty slice lends nothing.
 //! - The output does not overlap the operands: it is a `&mut` slice, so nothing
 //!   else reaches its bytes during the call.
 //! - Nothing is written but the output, which is the only slice lent by `&mut`.
