@@ -14,6 +14,14 @@
 
 #include <stdint.h>
 
+/* The version of this interface, for a program to test. */
+#ifndef DIKDUMAR_VERSION
+#define DIKDUMAR_VERSION "1.0.0"
+#define DIKDUMAR_VERSION_MAJOR 1
+#define DIKDUMAR_VERSION_MINOR 0
+#define DIKDUMAR_VERSION_PATCH 0
+#endif
+
 #ifdef __cplusplus
 extern "C" {
 #endif

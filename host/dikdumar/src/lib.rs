@@ -45,3 +45,17 @@ pub use answer::Answer;
 pub use check::{challenge_check, full_check};
 pub use setting::Setting;
 pub use writer::write_ticket;
+
+/// The version of this interface, as `DIKDUMAR_VERSION` in include/dikdumar.h has
+/// it.
+pub const VERSION: &str = env!("CARGO_PKG_VERSION");
+
+#[cfg(test)]
+mod tests {
+    #[test]
+    fn the_version_is_that_of_the_headers() {
+        let define = format!("\n#define DIKDUMAR_VERSION \"{}\"\n", super::VERSION);
+        assert!(include_str!("../../../include/dikdumar.h").contains(&define));
+        assert!(include_str!("../../../include/dikdumar_residue.h").contains(&define));
+    }
+}
