@@ -133,9 +133,9 @@ accepted-exactly-well-formed G t passes none x = (
   λ w. accepted-is G t passes x .1 (w, true-balanced G t none x),
 )
 
-pub accepted-all-or-few : (G : Setting) (t : List ℕ) → Passes G t → ((x : List ℕ) → Accepted G t x ↔ WellFormed G x)
-    ⊎ ((xs : List (List ℕ)) → Different [] xs → ((k : ℕ) → k < length xs → Accepted G t (getD xs k []))
-    → length xs ≤ modulus ^ (G .vectors * (G .columns - 1)))
+pub accepted-all-or-few : (G : Setting) (t : List ℕ) → Passes G t → ((y : List ℕ) → Accepted G t y ↔ WellFormed G y)
+    ⊎ ((ys : List (List ℕ)) → Different [] ys → ((k : ℕ) → k < length ys → Accepted G t (getD ys k []))
+    → length ys ≤ modulus ^ (G .vectors * (G .columns - 1)))
 accepted-all-or-few G t passes =
     ⊎-elim
     (λ none. inl (accepted-exactly-well-formed G t passes none))
