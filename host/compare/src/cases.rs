@@ -82,6 +82,14 @@ pub struct Reply {
     pub buffer: Vec<u8>,
 }
 
+impl Reply {
+    /// The whole output of the writer, and of a check nothing.
+    pub fn output(&self) -> &[u8] {
+        let end = self.buffer.len().saturating_sub(GUARD.len());
+        self.buffer.get(GUARD.len()..end).unwrap_or_default()
+    }
+}
+
 impl From<Answer> for Reply {
     /// The reply of a check.
     fn from(answer: Answer) -> Reply {

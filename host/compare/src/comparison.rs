@@ -3,28 +3,40 @@
 use std::fmt::{self, Display, Formatter};
 
 use apart::Answer;
+use digests::{Digest, Digests};
 
 use crate::cases::{Call, Case, Family, Kind, Reply, Side, Visitor, GUARD};
-use crate::outcome::Test;
+use crate::outcome::{agreed, Report};
 
-/// How often the library answered each number from 0 to 16, for each call in the
-/// order of `Kind::ALL`. Any other number is a difference, and so is not counted.
+/// How often the library answered, and how often with each number from 0 to 16, for
+/// each call in the order of `Kind::ALL`. Any other number is a difference, and so
+/// is not counted by itself.
 #[derive(Clone, Debug, Default, PartialEq, Eq)]
-pub struct Numbers([[u64; 17]; 3]);
+pub struct Numbers {
+    cases: [u64; 3],
+    numbers: [[u64; 17]; 3],
+}
 
 impl Numbers {
     pub fn count(&mut self, kind: Kind, number: u32) {
-        if let Some(count) = self.0[kind as usize].get_mut(number as usize) {
+        self.cases[kind as usize] += 1;
+        if let Some(count) = self.numbers[kind as usize].get_mut(number as usize) {
             *count += 1;
         }
     }
 
+    pub fn cases(&self, kind: Kind) -> u64 {
+        self.cases[kind as usize]
+    }
+
     pub fn of(&self, kind: Kind, number: u32) -> u64 {
-        self.0[kind as usize][number as usize]
+        self.numbers[kind as usize][number as usize]
     }
 
     pub fn add(&mut self, others: &Numbers) {
-        for (total, count) in self.0.iter_mut().flatten().zip(others.0.iter().flatten()) {
+        let totals = self.cases.iter_mut().chain(self.numbers.iter_mut().flatten());
+        let counts = others.cases.iter().chain(others.numbers.iter().flatten());
+        for (total, count) in totals.zip(counts) {
             *total += count;
         }
     }
@@ -37,6 +49,8 @@ pub struct Outcome {
     /// The first case whose replies are not all the same.
     pub first: Option<String>,
     pub numbers: Numbers,
+    /// Of all replies of the library.
+    digest: Digest,
 }
 
 /// Compares the two sides on every case of a family.
@@ -46,10 +60,12 @@ pub fn compare(family: &Family, library: Side, apart: Side) -> Outcome {
         differing: 0,
         first: None,
         numbers: Numbers::default(),
+        digest: Digest::default(),
     };
     (family.visit)(&mut Visitor(&mut |case| {
         let (by_library, by_apart) = (library(case), apart(case));
         outcome.numbers.count(case.kind(), by_library.answer.number);
+        digest_reply(&mut outcome.digest, &by_library);
         let right = case.expected.as_ref().unwrap_or(&by_apart);
         if by_library != *right || by_apart != *right {
             outcome.differing += 1;
@@ -69,22 +85,32 @@ pub fn compare(family: &Family, library: Side, apart: Side) -> Outcome {
 }
 
 impl Outcome {
-    pub fn test(&self, family: &Family) -> Test {
-        let Outcome {
-            compared, differing, ..
-        } = self;
-        Test {
-            compared: *compared,
-            report: match &self.first {
-                None if *compared == 0 => Err(format!("{}: no case", family.name)),
-                None => Ok(format!("{}: {compared} cases, no difference", family.name)),
-                Some(first) => Err(format!(
-                    "{}: {compared} cases, {differing} with a wrong reply, the first is\n{first}",
-                    family.name
-                )),
-            },
+    pub fn report(&self, family: &Family, digests: &mut Digests) -> Report {
+        let (name, compared, digest) = (family.name, self.compared, self.digest);
+        let on_file = digests.take(name, compared, digest);
+        match &self.first {
+            None if compared == 0 => Err(format!("{name}: no case")),
+            None => agreed(format!("{name}: {compared} cases, no difference"), digest, on_file),
+            Some(first) => Err(format!(
+                "{name}: {compared} cases, {} with a wrong reply, the first is\n{first}",
+                self.differing
+            )),
         }
     }
+}
+
+/// As digests.txt says.
+fn digest_reply(digest: &mut Digest, reply: &Reply) {
+    let Answer {
+        number,
+        place,
+        row,
+        products,
+    } = reply.answer;
+    for number in [number, place, row, products] {
+        digest.update(&number.to_le_bytes());
+    }
+    digest.update(reply.output());
 }
 
 /// A case whose replies are not all the same.
@@ -189,6 +215,8 @@ fn line(answer: &Answer) -> String {
 
 #[cfg(test)]
 mod tests {
+    use std::collections::BTreeSet;
+
     use super::*;
     use crate::cases::apart;
     use crate::families::craft::case_c;
@@ -212,8 +240,19 @@ mod tests {
     };
 
     fn one_product_more(case: &Case) -> Reply {
+        number_changed(case, 3)
+    }
+
+    /// One more in one of the four numbers.
+    fn number_changed(case: &Case, index: usize) -> Reply {
         let mut reply = apart(case);
-        reply.answer.products += 1;
+        let Answer {
+            number,
+            place,
+            row,
+            products,
+        } = &mut reply.answer;
+        *[number, place, row, products][index] += 1;
         reply
     }
 
@@ -224,6 +263,16 @@ mod tests {
         reply
     }
 
+    /// The line of a file that has the outcome.
+    fn line_of(family: &Family, outcome: &Outcome) -> String {
+        format!("{}: {} {}\n", family.name, outcome.compared, outcome.digest)
+    }
+
+    fn report_on_file(family: &Family, outcome: &Outcome, text: &str) -> Report {
+        let mut digests = Digests::new("digests.txt", text, &[]).expect("no argument");
+        outcome.report(family, &mut digests)
+    }
+
     #[test]
     fn the_right_reply_passes() {
         for (family, kind) in [(CHALLENGE, Kind::Challenge), (FULL, Kind::Full), (WRITER, Kind::Writer)] {
@@ -232,14 +281,15 @@ mod tests {
             for each in Kind::ALL {
                 assert_eq!(outcome.numbers.of(each, 0), u64::from(each == kind));
             }
-            assert!(outcome.test(&family).report.is_ok());
+            assert_eq!(outcome.numbers.cases(kind), 1);
+            assert!(report_on_file(&family, &outcome, &line_of(&family, &outcome)).is_ok());
         }
     }
 
     fn report(family: &Family, library: Side) -> String {
         let outcome = compare(family, library, apart);
         assert_eq!((outcome.compared, outcome.differing), (1, 1));
-        outcome.test(family).report.expect_err("the replies differ")
+        report_on_file(family, &outcome, &line_of(family, &outcome)).expect_err("the replies differ")
     }
 
     fn assert_parts(report: &str, parts: &[&str]) {
@@ -326,13 +376,93 @@ mod tests {
         }
     }
 
+    fn digest(family: &Family, library: Side) -> String {
+        compare(family, library, apart).digest.to_string()
+    }
+
+    #[test]
+    fn the_digest_is_of_the_replies_of_the_library() {
+        let mut right = Digest::default();
+        right.update(&[0, 0, 0, 0, 0, 0, 0, 0, 0, 0, 0, 0, 13, 0, 0, 0]);
+        assert_eq!(digest(&CHALLENGE, one_product_more), right.to_string());
+
+        let mut right = Digest::default();
+        right.update(&[0, 0, 0, 0, 128, 0, 0, 0, 0, 0, 0, 0, 9, 0, 0, 0]);
+        right.update(&case_c().ticket);
+        right.update(&writer_case_b(2).output[128..]);
+        assert_eq!(digest(&WRITER, one_product_more), right.to_string());
+    }
+
+    #[test]
+    fn a_changed_reply_changes_the_digest() {
+        let numbers: [Side; 5] = [
+            apart,
+            |case| number_changed(case, 0),
+            |case| number_changed(case, 1),
+            |case| number_changed(case, 2),
+            |case| number_changed(case, 3),
+        ];
+        let bytes: [Side; 3] = [
+            |case| byte_changed(case, 0),
+            |case| byte_changed(case, 127),
+            |case| byte_changed(case, 129),
+        ];
+        for (family, sides) in [
+            (CHALLENGE, numbers.to_vec()),
+            (FULL, numbers.to_vec()),
+            (WRITER, [&numbers[..], &bytes].concat()),
+        ] {
+            let digests: BTreeSet<String> = sides.iter().map(|side| digest(&family, *side)).collect();
+            assert_eq!(digests.len(), sides.len(), "{}", family.name);
+        }
+    }
+
+    #[test]
+    fn the_order_of_the_replies_changes_the_digest() {
+        let one_way = Family {
+            name: "one way",
+            visit: |visit| {
+                [CHALLENGE, FULL]
+                    .map(|family| (family.visit)(visit))
+                    .into_iter()
+                    .collect()
+            },
+        };
+        let the_other = Family {
+            name: "the other",
+            visit: |visit| {
+                [FULL, CHALLENGE]
+                    .map(|family| (family.visit)(visit))
+                    .into_iter()
+                    .collect()
+            },
+        };
+        assert_ne!(digest(&one_way, apart), digest(&the_other, apart));
+    }
+
+    #[test]
+    fn other_replies_than_on_file_fail() {
+        let outcome = compare(&FULL, apart, apart);
+        let line = line_of(&FULL, &outcome);
+        for other in [
+            String::new(),
+            line.replace(": 1 ", ": 2 "),
+            line_of(&FULL, &compare(&FULL, one_product_more, apart)),
+        ] {
+            let report = report_on_file(&FULL, &outcome, &other).expect_err("not on file");
+            let begin = "one full check: 1 cases, no difference, but FAILED: expected ";
+            assert!(report.starts_with(begin), "{report}");
+        }
+    }
+
     #[test]
     fn a_family_without_a_case_fails() {
         let none = Family {
             name: "none",
             visit: |_| (),
         };
-        assert!(compare(&none, apart, apart).test(&none).report.is_err());
+        let outcome = compare(&none, apart, apart);
+        assert!(report_on_file(&none, &outcome, &line_of(&none, &outcome)).is_err());
     }
 
     #[test]
@@ -344,6 +474,7 @@ mod tests {
         numbers.count(Kind::Writer, u32::MAX);
         let mut twice = numbers.clone();
         twice.add(&numbers);
+        assert_eq!(Kind::ALL.map(|kind| twice.cases(kind)), [0, 2, 6]);
         for kind in Kind::ALL {
             for number in 0..17 {
                 let counted = [(Kind::Full, 16), (Kind::Writer, 0)].contains(&(kind, number));

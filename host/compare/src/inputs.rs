@@ -78,7 +78,7 @@ pub fn random(seed: u64, count: usize) -> impl Iterator<Item = (u32, u32)> {
         let bits = generator.next();
         let anywhere = (bits >> 32) as u32;
         if bits.is_multiple_of(4) {
-            let corner = corners[(bits >> 8) as usize % corners.len()];
+            let corner = corners[((bits >> 8) % corners.len() as u64) as usize];
             corner.wrapping_add(anywhere % 17).wrapping_sub(8)
         } else {
             anywhere

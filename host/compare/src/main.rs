@@ -1,9 +1,12 @@
 //! Compares every call of the proved library with the implementation written
 //! apart from it: the residue calls on all pairs of corner values and on random
 //! inputs, the two checks and the writer on families of cases. Each residue call
-//! and each family is one test, and it is one more that the checks and the writer
-//! gave each of their numbers at some case. The last line says how many passed,
-//! and how many did not.
+//! and each family is one test, which also holds the digest of its answers to
+//! digests.txt. It is one more that the checks and the writer gave each of their
+//! numbers at some case, and one that every line of digests.txt was met. The last
+//! line says how many passed, and how many did not.
+//!
+//! Usage: `compare [--write-digests]`
 
 #![forbid(unsafe_code)]
 
@@ -15,25 +18,39 @@ mod inputs;
 mod outcome;
 mod residues;
 
+use std::env;
+use std::ffi::OsString;
 use std::process::ExitCode;
+
+use digests::Digests;
 
 use cases::Kind;
 use comparison::Numbers;
-use outcome::Test;
+use outcome::Report;
 
 fn main() -> ExitCode {
+    let arguments: Vec<OsString> = env::args_os().skip(1).collect();
+    let on_file = include_str!("../digests.txt");
+    let Some(mut digests) = Digests::new("host/compare/digests.txt", on_file, &arguments) else {
+        eprintln!("usage: compare [{}]", digests::WRITE);
+        return ExitCode::from(2);
+    };
     let mut run = Run::default();
+    let mut inputs = 0;
     for (seed, call) in (1..).zip(&residues::CALLS) {
-        run.take(residues::test(call, seed));
+        let outcome = residues::compare(call, residues::inputs_of(seed));
+        inputs += outcome.compared;
+        run.take(outcome.report(call, &mut digests));
     }
     let mut numbers = Numbers::default();
     for family in &families::ALL {
         let outcome = comparison::compare(family, cases::library, cases::apart);
         numbers.add(&outcome.numbers);
-        run.take(outcome.test(family));
+        run.take(outcome.report(family, &mut digests));
     }
-    println!("{} answers compared", run.compared);
     run.take(every_number(&numbers));
+    run.take(digests.finish(run.failed > 0));
+    println!("{}", summary(&numbers, inputs));
     println!("{} passed, {} failed", run.passed, run.failed);
     if run.failed == 0 {
         ExitCode::SUCCESS
@@ -45,15 +62,13 @@ fn main() -> ExitCode {
 /// The tests made so far.
 #[derive(Default)]
 struct Run {
-    compared: u64,
     passed: u64,
     failed: u64,
 }
 
 impl Run {
-    fn take(&mut self, test: Test) {
-        self.compared += test.compared;
-        match test.report {
+    fn take(&mut self, report: Report) {
+        match report {
             Ok(line) => {
                 self.passed += 1;
                 println!("{line}");
@@ -67,7 +82,7 @@ impl Run {
 }
 
 /// A number that a call answers no case with has not been compared.
-fn every_number(numbers: &Numbers) -> Test {
+fn every_number(numbers: &Numbers) -> Report {
     let mut lines = vec![String::from("answers of each number:")];
     let mut missing = Vec::new();
     for kind in Kind::ALL {
@@ -81,14 +96,22 @@ fn every_number(numbers: &Numbers) -> Test {
         }
     }
     let lines = lines.join("\n");
-    Test {
-        compared: 0,
-        report: if missing.is_empty() {
-            Ok(lines)
-        } else {
-            Err(format!("{lines}\nnever answered: {}", missing.join(", ")))
-        },
+    if missing.is_empty() {
+        Ok(lines)
+    } else {
+        Err(format!("{lines}\nnever answered: {}", missing.join(", ")))
     }
+}
+
+/// How many families there are and cases of each call, how many residue calls
+/// and inputs of them, in a form that a script can read.
+fn summary(numbers: &Numbers, inputs: u64) -> String {
+    let cases = Kind::ALL.map(|kind| format!("{} {}", kind.name(), numbers.cases(kind)));
+    let (families, calls) = (families::ALL.len(), residues::CALLS.len());
+    format!(
+        "families {families}, {}, residue calls {calls}, inputs {inputs}",
+        cases.join(", ")
+    )
 }
 
 #[cfg(test)]
@@ -110,11 +133,11 @@ mod tests {
 
     #[test]
     fn a_number_that_never_occurs_is_noticed() {
-        assert!(every_number(&all_but(None)).report.is_ok());
+        assert!(every_number(&all_but(None)).is_ok());
         for kind in Kind::ALL {
             for &number in kind.numbers() {
                 let numbers = all_but(Some((kind, number)));
-                let report = every_number(&numbers).report.expect_err("a number is missing");
+                let report = every_number(&numbers).expect_err("a number is missing");
                 let end = format!("never answered: {number} by the {}", kind.name());
                 assert!(report.ends_with(&end), "{report}");
             }
@@ -132,8 +155,16 @@ mod tests {
     fn what_fails_is_counted() {
         let mut run = Run::default();
         for report in [Ok(String::new()), Err(String::new()), Ok(String::new())] {
-            run.take(Test { compared: 5, report });
+            run.take(report);
         }
-        assert_eq!((run.compared, run.passed, run.failed), (15, 2, 1));
+        assert_eq!((run.passed, run.failed), (2, 1));
+    }
+
+    #[test]
+    fn the_summary() {
+        assert_eq!(
+            summary(&all_but(None), 3),
+            "families 45, challenge check 13, full check 11, writer 7, residue calls 7, inputs 3"
+        );
     }
 }

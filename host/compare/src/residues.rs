@@ -1,7 +1,9 @@
 //! The residue calls: each on all pairs of corner values, and on random inputs.
 
+use digests::{Digest, Digests};
+
 use crate::inputs;
-use crate::outcome::Test;
+use crate::outcome::{agreed, Report};
 
 /// What both sides answer to one input. A call of one argument passes over the
 /// second number.
@@ -38,22 +40,32 @@ pub const CALLS: [Call; 7] = [
     call!(power_of_two, |x, _y| x),
 ];
 
-pub const RANDOM: usize = 1_000_000;
+const RANDOM: usize = 1_000_000;
 
-/// How many inputs were compared, and the first at which the sides differ.
-struct Outcome {
-    compared: u64,
-    differs: Option<(u32, u32)>,
+/// The inputs of a call; `seed` makes the random ones.
+pub fn inputs_of(seed: u64) -> impl Iterator<Item = (u32, u32)> {
+    inputs::pairs().chain(inputs::random(seed, RANDOM))
 }
 
-fn compare(call: &Call, inputs: impl Iterator<Item = (u32, u32)>) -> Outcome {
+/// What the comparison of a call found.
+pub struct Outcome {
+    pub compared: u64,
+    /// The first input at which the sides differ.
+    differs: Option<(u32, u32)>,
+    /// Of all numbers that the library gave.
+    digest: Digest,
+}
+
+pub fn compare(call: &Call, inputs: impl Iterator<Item = (u32, u32)>) -> Outcome {
     let mut outcome = Outcome {
         compared: 0,
         differs: None,
+        digest: Digest::default(),
     };
     for (x, y) in inputs {
         let answers = (call.answers)(x, y);
         outcome.compared += 1;
+        outcome.digest.update(&answers.library.to_le_bytes());
         if answers.library != answers.apart && outcome.differs.is_none() {
             outcome.differs = Some((x, y));
         }
@@ -61,21 +73,19 @@ fn compare(call: &Call, inputs: impl Iterator<Item = (u32, u32)>) -> Outcome {
     outcome
 }
 
-/// Compares one call; `seed` makes its random inputs.
-pub fn test(call: &Call, seed: u64) -> Test {
-    let outcome = compare(call, inputs::pairs().chain(inputs::random(seed, RANDOM)));
-    Test {
-        compared: outcome.compared,
-        report: match outcome.differs {
-            None => Ok(format!("{}: {} inputs, no difference", call.name, outcome.compared)),
+impl Outcome {
+    pub fn report(&self, call: &Call, digests: &mut Digests) -> Report {
+        let (name, compared, digest) = (call.name, self.compared, self.digest);
+        let on_file = digests.take(name, compared, digest);
+        match self.differs {
+            None => agreed(format!("{name}: {compared} inputs, no difference"), digest, on_file),
             Some((x, y)) => {
                 let Answers { library, apart } = (call.answers)(x, y);
                 Err(format!(
-                    "{}: at {x}, {y} the library says {library}, the implementation written apart {apart}",
-                    call.name
+                    "{name}: at {x}, {y} the library says {library}, the implementation written apart {apart}"
                 ))
             }
-        },
+        }
     }
 }
 
@@ -99,7 +109,38 @@ mod tests {
     }
 
     #[test]
+    fn the_digest_is_of_the_answers_of_the_library() {
+        let negated = Call {
+            name: "negated",
+            answers: |x, _y| Answers {
+                library: -i64::from(x),
+                apart: 0,
+            },
+        };
+        let digest = |inputs: &[u32]| compare(&negated, inputs.iter().map(|&x| (x, 0))).digest;
+        let mut numbers = Digest::default();
+        numbers.update(&[0xFF, 0xFF, 0xFF, 0xFF, 0xFF, 0xFF, 0xFF, 0xFF]);
+        numbers.update(&[0x00, 0xFF, 0xFF, 0xFF, 0xFF, 0xFF, 0xFF, 0xFF]);
+        assert_eq!(digest(&[1, 256]), numbers);
+        for other in [[1, 257], [2, 256], [256, 1]] {
+            assert_ne!(digest(&other), numbers);
+        }
+    }
+
+    #[test]
+    fn other_answers_than_on_file_fail() {
+        let [call, ..] = &CALLS;
+        let outcome = compare(call, [(1, 0), (2, 0)].into_iter());
+        let line = format!("{}: 2 {}\n", call.name, outcome.digest);
+        let changed = line.replace(": 2 ", ": 3 ");
+        for (text, right) in [(line.as_str(), true), (&changed, false), ("", false)] {
+            let mut digests = Digests::new("digests.txt", text, &[]).expect("no argument");
+            assert_eq!(outcome.report(call, &mut digests).is_ok(), right);
+        }
+    }
+
+    #[test]
     fn every_call_is_compared_on_a_million_inputs() {
-        assert!(inputs::random(1, RANDOM).count() >= 1_000_000);
+        assert!(inputs_of(1).count() >= 1_000_000);
     }
 }

@@ -3,6 +3,8 @@
 use std::io::{self, Write};
 use std::path::Path;
 
+use digests::{Digest, Digests};
+
 use crate::case::{Case, Family};
 use crate::folder::{self, Snapshot};
 use crate::run::{Runner, MEMORY};
@@ -15,16 +17,27 @@ const NUMBERS: usize = 13;
 
 /// Runs the families in folders below `parent` and writes a line for each, and
 /// what differs. Says whether all passed.
-pub fn report(families: &[Family], runner: &mut Runner, parent: &Path, out: &mut dyn Write) -> io::Result<bool> {
+pub fn report(
+    families: &[Family],
+    runner: &mut Runner,
+    parent: &Path,
+    mut digests: Digests,
+    out: &mut dyn Write,
+) -> io::Result<bool> {
     let mut tally = Tally::default();
     for family in families {
-        report_family(family, runner, parent, &mut tally, out)?;
+        report_family(family, runner, parent, &mut digests, &mut tally, out)?;
     }
     report_numbers(&mut tally, out)?;
+    let on_file = digests.finish(tally.failed > 0);
+    tally.count(on_file.is_ok());
+    writeln!(out, "{}", on_file.unwrap_or_else(|other| other))?;
     writeln!(
         out,
-        "{} folders, {} of them as expected",
-        tally.folders, tally.as_expected
+        "families {}, folders {}, as expected {}",
+        families.len(),
+        tally.folders,
+        tally.as_expected
     )?;
     writeln!(out, "{} passed, {} failed", tally.passed, tally.failed)?;
     Ok(tally.failed == 0)
@@ -36,7 +49,7 @@ struct Tally {
     as_expected: usize,
     /// The folders as expected, by the number of the answer.
     numbers: [usize; NUMBERS],
-    /// Families and the test of the numbers.
+    /// Families, the test of the numbers and that of the digests on file.
     passed: usize,
     failed: usize,
 }
@@ -55,15 +68,17 @@ fn report_family(
     family: &Family,
     runner: &mut Runner,
     parent: &Path,
+    digests: &mut Digests,
     tally: &mut Tally,
     out: &mut dyn Write,
 ) -> io::Result<()> {
     let mut differences = Vec::new();
+    let mut digest = Digest::default();
     for case in &family.cases {
         let standard_name = format!("{:04}", tally.folders).into();
         let folder = parent.join(case.folder.as_ref().unwrap_or(&standard_name));
         tally.folders += 1;
-        let found = difference(case, runner, &folder)
+        let found = difference(case, runner, &folder, &mut digest)
             .map_err(|error| io::Error::other(format!("{}: {}: {error}", family.name, case.description)))?;
         match found {
             Some(difference) => differences.push(format!("{}: {difference}", case.description)),
@@ -77,11 +92,13 @@ fn report_family(
     }
     let Family { name, cases, note } = family;
     let count = cases.len();
-    if differences.is_empty() {
-        writeln!(out, "{name}: {count} folders, ok")?;
-    } else {
-        writeln!(out, "{name}: {count} folders, FAILED in {}", differences.len())?;
-    }
+    let on_file = digests.take(name, count as u64, digest);
+    let verdict = match (differences.len(), &on_file) {
+        (0, Ok(())) => format!("ok, digest {digest}"),
+        (0, Err(other)) => format!("FAILED: {other}"),
+        (failed, _) => format!("FAILED in {failed}"),
+    };
+    writeln!(out, "{name}: {count} folders, {verdict}")?;
     if let Some(note) = note {
         writeln!(out, "    note: {note}")?;
     }
@@ -91,7 +108,7 @@ fn report_family(
     if differences.len() > SHOWN {
         writeln!(out, "    and {} more", differences.len() - SHOWN)?;
     }
-    tally.count(differences.is_empty());
+    tally.count(differences.is_empty() && on_file.is_ok());
     Ok(())
 }
 
@@ -110,12 +127,14 @@ fn report_numbers(tally: &mut Tally, out: &mut dyn Write) -> io::Result<()> {
     Ok(())
 }
 
-/// Runs the program in the folder of a case and says what is not as expected.
-fn difference(case: &Case, runner: &mut Runner, folder: &Path) -> io::Result<Option<String>> {
+/// Runs the program in the folder of a case and says what is not as expected. What
+/// it prints goes into the digest.
+fn difference(case: &Case, runner: &mut Runner, folder: &Path, digest: &mut Digest) -> io::Result<Option<String>> {
     folder::make(folder, case)?;
     let before = Snapshot::of(folder)?;
     let run = runner.run(folder, &case.arguments, case.bounds);
     let changes = before.differences(&Snapshot::of(folder)?);
+    digest.update(&run.output);
 
     let expected = case.expected();
     let mut found = Vec::new();
