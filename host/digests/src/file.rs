@@ -74,7 +74,7 @@ impl<'a> Digests<'a> {
             Ok(format!("{path}: every line is of a family"))
         } else {
             let line =
-                |(name, expected)| format!("FAILED: expected {expected} of {name:?} by {path}, found no such family");
+                |(name, expected)| format!("FAILED: expected {expected:?} of {name:?} by {path}, found no such family");
             Err(self.left.into_iter().map(line).collect::<Vec<_>>().join("\n"))
         }
     }

@@ -62,7 +62,7 @@ fn a_family_that_is_not_on_file() {
 fn a_line_that_no_family_has() {
     let mut digests = compared(TEXT);
     assert_eq!(digests.take("two: with a colon", 2, digest("foobar")), Ok(()));
-    let expected = "FAILED: expected 1 af63dc4c8601ec8c of \"one\" by PATH, found no such family";
+    let expected = "FAILED: expected \"1 af63dc4c8601ec8c\" of \"one\" by PATH, found no such family";
     assert_eq!(digests.finish(false), Err(expected.into()));
 }
 
@@ -73,9 +73,9 @@ fn every_line_that_no_family_has() {
     let mut digests = compared(&text);
     take_both(&mut digests);
     let expected = "\
-        FAILED: expected 1 af63dc4c8601ec8c of \"one\" by PATH, found no such family\n\
-        FAILED: expected  of \"\" by PATH, found no such family\n\
-        FAILED: expected  of \"# no comment here\" by PATH, found no such family";
+        FAILED: expected \"1 af63dc4c8601ec8c\" of \"one\" by PATH, found no such family\n\
+        FAILED: expected \"\" of \"\" by PATH, found no such family\n\
+        FAILED: expected \"\" of \"# no comment here\" by PATH, found no such family";
     assert_eq!(digests.finish(false), Err(expected.into()));
 }
 

@@ -183,7 +183,7 @@ fn other_output_than_on_file() {
         ),
         (
             format!("one: 1 {digest}\ntwo: 1 {digest}\n"),
-            format!("\nFAILED: expected 1 {digest} of \"two\" by digests.txt, found no such family\n"),
+            format!("\nFAILED: expected \"1 {digest}\" of \"two\" by digests.txt, found no such family\n"),
         ),
     ] {
         let (_, report) = report_on_file(&families, &text);
