@@ -12,7 +12,6 @@
 --   refused-number         the number of a refusal is 1 to 9
 --   reading-zero-exactly   reading answers 0 exactly when all tests pass
 --   refusal-exactly        reading refuses with a number and a place exactly under their condition
---   reading-form           row and products of reading's answer are 0
 --   ReadingRow G a         the answer a is a row of the published table with a number from 1 to 9, within its bounds
 --   refused-in-table       every refusal is one
 use Prim.Native.Nat.{ℕ, _+_, _≤_, _<_}
@@ -131,9 +130,6 @@ module _ (G : Setting) (t : List ℕ) where
         passed-or-refused,
     refused-reading,
   )
-
-  pub reading-form : reading G t ≡ refusal (reading G t .number) (reading G t .place)
-  reading-form = ⊎-elim (λ p. rw (passed-reading p)) (λ x. rw (refused-reading (x .2))) passed-or-refused
 
 pub data ReadingRow (G : Setting) : Answer → Type 0 where
   setting-or-length-row : (c : ℕ) → 1 ≤ c → c ≤ 4 → ReadingRow G (refusal c 0)
