@@ -5,8 +5,9 @@
 --   Drawn n s P nonzero x       x is a list of s such vectors
 --   drawn-any                   where the zero vector is not excluded, allowed entries make one
 --   drawn-cong                  a vector of the same entries is one too
+--   drawn-other                 where the zero vector is excluded, a vector is another list than n zeros
 --   drawn-exactly               with exactly b allowed numbers there are exactly (b ^ n) ^ s lists; without the zero vector (b ^ n - 1) ^ s
---   drawn-with-zero             the first of these as one power
+--   drawn-with-zero             the first of these as one power; with n - 1 for n it is the bound of Soundness
 use Prim.Native.Nat.{ℕ, _+_, _-_, _*_, _^_, _<_}
 use native.Mathlib.Nat.{sub-zero}
 use native.Mathlib.Omega.{arith}
@@ -39,6 +40,9 @@ module _ {n : ℕ} {P : ℕ → Type 0} where
   drawn-cong same a =
       record { allowed = λ k l. subst P (same k l) (a .allowed k l); not-zero = λ e z. a .not-zero e (λ k l. same k l ∙ z k l) }
 
+  pub drawn-other : {x : List ℕ} → DrawnVector n P true (λ k. getD x k 0) → x ≡ replicate n 0 → ⊥
+  drawn-other v e = v .not-zero refl (λ k l. ap (λ y. getD y k 0) e ∙ getD-replicate n k 0 0 l)
+
   module _ {b : ℕ} (m : Exactly P b) where
     vectors-exactly : (nonzero : Bool) → (nonzero ≡ true → P 0) → Exactly (Vector n P nonzero) (b ^ n - cond nonzero 1 0)
     vectors-exactly false zero-allowed =
@@ -54,10 +58,7 @@ module _ {n : ℕ} {P : ℕ → Type 0} where
         (word-of-entries P n (replicate n 0) (length-replicate n 0)
         (λ k l. subst P (sym (getD-replicate n k 0 0 l)) (zero-allowed refl))))
         (λ x. x) (λ x. x)
-        (λ x v. (
-          word-of-entries P n x (v .0) (v .1 .allowed),
-          λ e. v .1 .not-zero refl (λ k l. ap (λ y. getD y k 0) e ∙ getD-replicate n k 0 0 l),
-        ))
+        (λ x v. (word-of-entries P n x (v .0) (v .1 .allowed), drawn-other (v .1)))
         (λ x y v w e. e)
         (λ x w. let entries = entries-of-word P n x (w .0) in
         ((entries .0, record { allowed = entries .1; not-zero = λ e z. w .1 (zeros x (entries .0) z) }), refl))

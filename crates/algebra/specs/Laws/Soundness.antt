@@ -8,20 +8,19 @@
 --   one-column        two passing lists that agree but in the wrong column are equal
 --   passing-at-most   with b allowed numbers at most (b ^ (n - 1)) ^ s lists pass; without the zero vector (b ^ (n - 1) - 1) ^ s
 --   passing-count     a list of different passing lists is at most that long
---   bound-with-zero   the bound for all vectors as one power
 use Prim.Native.Nat.{ℕ, suc, _+_, _-_, _*_, _/_, _%_, _^_, _≤_, _<_}
-use native.Mathlib.Nat.{mod-eq-of-lt, zero-mod, div-add-mod, sub-zero, sub-add-cancel, mul-zero, mul-le-mul-right}
+use native.Mathlib.Nat.{mod-eq-of-lt, zero-mod, div-add-mod, sub-zero, sub-add-cancel, mul-zero}
 use native.Mathlib.Decide.{ℕ-discrete, decLe}
 use native.Mathlib.Omega.{arith}
-use mathlib.Core.Path.{_≡_, refl, sym, ap, _∙_, subst}
+use mathlib.Core.Path.{_≡_, refl, sym, ap, _∙_}
 use mathlib.Core.Logic.{⊎-elim}
-use mathlib.Core.Bool.{Bool, true, false, false≢true, cond}
+use mathlib.Core.Bool.{Bool, true, false, cond}
 use mathlib.Core.List.{List, []}
 use lib.IntN.{ℤ, pos, natAbs, _*ℤ_, +ℤ-idr}
-use lib.ListN.{length, getD, take, drop, replicate, length-drop, length-replicate, getD-replicate}
-use lib.Seq.{length-take-le, getD-take, getD-drop, ext-getD}
+use lib.ListN.{length, getD, take, drop, replicate, length-replicate, getD-replicate}
+use lib.Seq.{ext-getD}
 use Rattle.residue.specs.Rules.{leastResidue, sum, Prime}
-use Rattle.residue.specs.Laws.Modulo.{mod-of-multiples, multiples-of-mod, pow-pow}
+use Rattle.residue.specs.Laws.Modulo.{mod-of-multiples, multiples-of-mod}
 use Rattle.residue.specs.Laws.Residues.{residue-below, residue-of-natural, residue-close}
 use Rattle.residue.specs.Laws.Primes.{prime-positive, product-zero}
 use Rattle.residue.specs.Laws.Sums.{sum-zero, sum-but-one}
@@ -30,7 +29,7 @@ use Rattle.algebra.specs.Rules.{sumℤ}
 use Rattle.algebra.specs.Laws.IntegerSums.{sumℤ-cong, residue-dot}
 use Rattle.algebra.specs.Laws.Positions.{by-rows}
 use Rattle.algebra.specs.Laws.Vectors.{without, without-apart, without-word, word-of-entries, vector-same, cut, cut-word, cut-apart}
-use Rattle.algebra.specs.Laws.Drawn.{DrawnVector, Drawn, drawn-any, drawn-cong}
+use Rattle.algebra.specs.Laws.Drawn.{DrawnVector, Drawn, drawn-any, drawn-cong, drawn-other}
 
 abbrev pub Orthogonal : (p rows n : ℕ) → (ℕ → ℕ → ℤ) → (ℕ → ℕ) → Type 0
 Orthogonal p rows n D v = (i : ℕ) → i < rows → leastResidue p (sumℤ n (λ k. D i k *ℤ pos (v k))) ≡ 0
@@ -166,7 +165,7 @@ module _ {p rows n : ℕ} {D : ℕ → ℕ → ℤ} {P : ℕ → Type 0} (prime 
         at-most-through
         (at-most-but-one all-vectors-at-most (replicate n 0) (zero-vector (prime-positive prime) (zero-allowed refl)))
         (λ x. x)
-        (λ x v. ((v .0, passes-any (v .1)), λ e. v .1 .drawn .not-zero refl (λ k l. ap (λ y. getD y k 0) e ∙ getD-replicate n k 0 0 l)))
+        (λ x v. ((v .0, passes-any (v .1)), drawn-other (v .1 .drawn)))
         (λ x y v w e. e)
 
     pub passing-at-most : (s : ℕ) (nonzero : Bool) → (nonzero ≡ true → P 0)
@@ -180,6 +179,3 @@ module _ {p rows n : ℕ} {D : ℕ → ℕ → ℤ} {P : ℕ → Type 0} (prime 
         → (xs : List (List ℕ)) → ((m : ℕ) → m < length xs → Passing p rows n s D P nonzero (getD xs m [])) → Different [] xs
         → length xs ≤ (b ^ (n - 1) - cond nonzero 1 0) ^ s
     passing-count s nonzero zero-allowed = at-most-members (passing-at-most s nonzero zero-allowed) []
-
-pub bound-with-zero : (b n s : ℕ) → (b ^ (n - 1) - cond false 1 0) ^ s ≡ b ^ (s * (n - 1))
-bound-with-zero b n s = ap (λ m. m ^ s) (sub-zero (b ^ (n - 1))) ∙ pow-pow b (n - 1) s

@@ -34,7 +34,7 @@ use Rattle.algebra.specs.Laws.IntegerSums.{sumℤ-cong}
 use Rattle.algebra.specs.Laws.MatrixProducts.{product-through, row-balances}
 use Rattle.algebra.specs.Laws.Positions.{by-rows}
 use Rattle.algebra.specs.Laws.Drawn.{Drawn, drawn-any, drawn-exactly, drawn-with-zero}
-use Rattle.algebra.specs.Laws.Soundness.{Passing, Wrong, wrong-of-small, one-column, passing-count, bound-with-zero}
+use Rattle.algebra.specs.Laws.Soundness.{Passing, Wrong, wrong-of-small, one-column, passing-count}
 use Rattle.ticket.specs.declared.setting.Setting.{Setting}
 use Rattle.ticket.specs.Rules.{Passes, claim, due, entryA, entryB, FalseIn}
 use Rattle.ticket.specs.Laws.Passes.{passed-of}
@@ -122,7 +122,7 @@ one-accepted G t passes j column x y differ ax ay =
 pub accepted-at-most : (G : Setting) (t : List ℕ) → Passes G t → (j : ℕ) → FalseIn G t j → (xs : List (List ℕ)) → Different [] xs
     → ((k : ℕ) → k < length xs → Accepted G t (getD xs k [])) → length xs ≤ modulus ^ (G .vectors * (G .columns - 1))
 accepted-at-most G t passes j column xs different all =
-    rw (bound-with-zero modulus (G .columns) (G .vectors)) at
+    rw (drawn-with-zero modulus (G .columns - 1) (G .vectors)) at
     (passing-count modulus-prime (λ a l. l) (false-wrong G t passes j column) (at-most-below modulus)
     (G .vectors) false (λ e. absurd (false≢true e)) xs (λ k l. accepted-pass G t passes (getD xs k []) (all k l)) different)
 
