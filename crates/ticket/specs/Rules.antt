@@ -1,5 +1,6 @@
--- The setting, the ticket and the reading and range checks (tests 1 to 9): the rules. They are all that a reader has to believe
--- beside those of the residue and algebra crates; nothing is proved here. G is a setting, t the bytes of a ticket, w a part's number.
+-- The setting, the ticket and the reading and range checks (tests 1 to 9, 17 and 18): the rules. They are all that a reader has to
+-- believe beside those of the residue and algebra crates; nothing is proved here. G is a setting, with a bias or without, t the bytes
+-- of a ticket, w a part's number. A ticket without a bias is one whose bias part has no records.
 --
 --   first n f            the first place below n at which the test f fails, n where there is none
 --   unless c a b         b where c holds, else a
@@ -10,12 +11,15 @@
 --   Test, test b c       a test: whether it holds, and the number of the answer where it does not
 --   firstFailed l        the number of the first test of l that fails, 0 where all hold
 --   within l h n         n is from l to h
---   mostRows, mostInner, mostColumns, mostVectors, mostScale, mostBound, mostWidth   the limits
---   reach G              the largest size of an exact sum
+--   mostRows, mostInner, mostColumns, mostVectors, mostScale, mostBound, mostWidth, mostBiasBound   the limits
+--   numbered P b W, plain P, withBias P W   the setting of the public numbers P, without a bias, and with one of bound W
+--   biasBound G          the bound W of the bias, 0 where there is none
+--   biasColumns G        the columns of the bias: as many as those of the claims, 0 where there is none
+--   reach G              the largest size of what a claim is compared with
 --   halfRange G          half of the quotients' range
 --   lift G               that times the scale: with it added, neither a sum nor what a claim puts for it is negative
---   sizesWithin G, numbersWithin G, fits G   the limits and the fit
---   settingTests G       tests 1, 2 and 3, in order
+--   sizesWithin G, numbersWithin G, biasWithin G, fits G   the limits and the fit
+--   settingTests G       tests 1, 2, 17 and 3, in order
 --   settingNumber G      the first of them that fails, 0 where none does
 --   sumProducts G        how many products all exact sums take
 --   isEntry T x          the value x stands for a number from -T to T
@@ -23,7 +27,7 @@
 --   isQuotient v x       it is below 2^v
 --   Part                 a part of the ticket: the records of one matrix
 --   parts G              the parts of a ticket, in order
---   ofA, ofB, ofQuotients, ofRemainders   their numbers in that order
+--   ofA, ofB, ofBias, ofQuotients, ofRemainders   their numbers in that order
 --   noPart, part G w     a part without records, and part w
 --   partSize P, count l  how many records the part P has, and all parts of l
 --   start G w            the number of the first record of part w
@@ -38,19 +42,21 @@
 --   recordTests G t k    the tests of record k of the ticket
 --   recordNumber G t k   the first of them that fails, 0 where none does
 --   firstRefusal a n f   the refusal by the first of n numbers that is not 0, its place counted from a; number 0 where all are 0
---   recordsReading G t   the answer of the tests 4 to 9
+--   recordsReading G t   the answer of the tests from 4 on
 --   reading G t          the answer of the reading and range checks; its number is 0 where they pass
 --   Passes G t           they pass
 --   valueIn G t w i j    the value in row i, column j of part w
 --   entryA G t i k, entryB G t k j, quotient G t i j, remainder G t i j   the integers that the records stand for
+--   entryBias G t i j    the bias entry c, 0 where there is no bias
 --   claim G t i j        what the claim puts for its sum: scale times quotient plus remainder
 --   exactSum G A B i j   the exact sum of row i of A times column j of B
---   due G t i j          what the claim is compared with: the exact sum S of the ticket's operands
+--   biasedSum G A B C i j   that and the entry of C there: S + c
+--   due G t i j          what the claim is compared with: S + c of the ticket's operands and bias
 --   Untrue G t i j       the claim in row i, column j is untrue
 --   FalseIn G t j        the ticket is false in column j: some row's claim there is untrue
 use Prim.Native.Nat.{ℕ, zero, suc, _+_, _-_, _*_, _/_, _%_, _^_, _<_}
 use mathlib.Core.Path.{_≡_}
-use mathlib.Core.Bool.{Bool, false, cond, _&&_}
+use mathlib.Core.Bool.{Bool, true, false, cond, _&&_}
 use mathlib.Core.List.{List, [], _∷_}
 use lib.Dec.{leb, ltb, eqb}
 use lib.ListN.{length, getD, take}
@@ -58,6 +64,7 @@ use lib.IntN.{ℤ, pos, natAbs, _+ℤ_, _-ℤ_, _*ℤ_}
 use Rattle.residue.specs.Rules.{modulus, signedEntry}
 use Rattle.algebra.specs.Rules.{matrixProduct, word}
 use Rattle.ticket.specs.declared.setting.Setting.{Setting}
+use Rattle.ticket.specs.declared.published.PlainSetting.{PlainSetting}
 use Rattle.ticket.specs.declared.Answer.{Answer}
 
 -- answers
@@ -122,8 +129,37 @@ mostBound = 32_767
 abbrev pub mostWidth : ℕ
 mostWidth = 30
 
+abbrev pub mostBiasBound : ℕ
+mostBiasBound = 2 ^ 30
+
+abbrev pub numbered : PlainSetting → Bool → ℕ → Setting
+numbered P biased W =
+    record {
+      rows = P .rows;
+      inner = P .inner;
+      columns = P .columns;
+      vectors = P .vectors;
+      scale = P .scale;
+      bound = P .bound;
+      width = P .width;
+      biased = biased;
+      bias = W;
+    }
+
+abbrev pub plain : PlainSetting → Setting
+plain P = numbered P false 0
+
+abbrev pub withBias : PlainSetting → ℕ → Setting
+withBias P W = numbered P true W
+
+unfoldable pub biasBound : Setting → ℕ
+biasBound G = cond (G .biased) (G .bias) 0
+
+unfoldable pub biasColumns : Setting → ℕ
+biasColumns G = cond (G .biased) (G .columns) 0
+
 abbrev pub reach : Setting → ℕ
-reach G = G .inner * (G .bound * G .bound)
+reach G = G .inner * (G .bound * G .bound) + biasBound G
 
 abbrev pub halfRange : Setting → ℕ
 halfRange G = 2 ^ (G .width - 1)
@@ -141,11 +177,14 @@ sizesWithin G =
 unfoldable pub numbersWithin : Setting → Bool
 numbersWithin G = within 2 mostScale (G .scale) && within 1 mostBound (G .bound) && within 1 mostWidth (G .width)
 
+unfoldable pub biasWithin : Setting → Bool
+biasWithin G = leb (biasBound G) mostBiasBound
+
 unfoldable pub fits : Setting → Bool
 fits G = leb (reach G + G .scale - 1) (lift G) && ltb (2 ^ G .width * G .scale) modulus
 
 unfoldable pub settingTests : Setting → List Test
-settingTests G = test (sizesWithin G) 1 ∷ test (numbersWithin G) 2 ∷ test (fits G) 3 ∷ []
+settingTests G = test (sizesWithin G) 1 ∷ test (numbersWithin G) 2 ∷ test (biasWithin G) 17 ∷ test (fits G) 3 ∷ []
 
 abbrev pub settingNumber : Setting → ℕ
 settingNumber G = firstFailed (settingTests G)
@@ -178,6 +217,7 @@ unfoldable pub parts : Setting → List Part
 parts G =
     record { kind = 1; rows = G .rows; columns = G .inner; range = isEntry (G .bound); outside = 7 }
     ∷ record { kind = 2; rows = G .inner; columns = G .columns; range = isEntry (G .bound); outside = 7 }
+    ∷ record { kind = 5; rows = G .rows; columns = biasColumns G; range = isEntry (biasBound G); outside = 18 }
     ∷ record { kind = 3; rows = G .rows; columns = G .columns; range = isQuotient (G .width); outside = 8 }
     ∷ record { kind = 4; rows = G .rows; columns = G .columns; range = λ value. ltb value (G .scale); outside = 9 }
     ∷ []
@@ -188,11 +228,14 @@ ofA = 0
 abbrev pub ofB : ℕ
 ofB = 1
 
+abbrev pub ofBias : ℕ
+ofBias = 2
+
 abbrev pub ofQuotients : ℕ
-ofQuotients = 2
+ofQuotients = 3
 
 abbrev pub ofRemainders : ℕ
-ofRemainders = 3
+ofRemainders = 4
 
 -- past the last part there are no records
 abbrev pub noPart : Part
@@ -276,6 +319,9 @@ entryA G t i k = signedEntry modulus (valueIn G t ofA i k)
 unfoldable pub entryB : Setting → List ℕ → ℕ → ℕ → ℤ
 entryB G t k j = signedEntry modulus (valueIn G t ofB k j)
 
+unfoldable pub entryBias : Setting → List ℕ → ℕ → ℕ → ℤ
+entryBias G t i j = cond (G .biased) (signedEntry modulus (valueIn G t ofBias i j)) (pos 0)
+
 unfoldable pub quotient : Setting → List ℕ → ℕ → ℕ → ℤ
 quotient G t i j = pos (shiftedQuotient (G .width) (valueIn G t ofQuotients i j)) -ℤ pos (halfRange G)
 
@@ -288,8 +334,11 @@ claim G t i j = pos (G .scale) *ℤ quotient G t i j +ℤ remainder G t i j
 unfoldable pub exactSum : Setting → (ℕ → ℕ → ℤ) → (ℕ → ℕ → ℤ) → ℕ → ℕ → ℤ
 exactSum G A B i j = matrixProduct (G .inner) A B i j
 
-unfoldable pub due : Setting → List ℕ → ℕ → ℕ → ℤ
-due G t i j = exactSum G (entryA G t) (entryB G t) i j
+unfoldable pub biasedSum : Setting → (ℕ → ℕ → ℤ) → (ℕ → ℕ → ℤ) → (ℕ → ℕ → ℤ) → ℕ → ℕ → ℤ
+biasedSum G A B C i j = exactSum G A B i j +ℤ C i j
+
+abbrev pub due : Setting → List ℕ → ℕ → ℕ → ℤ
+due G t = biasedSum G (entryA G t) (entryB G t) (entryBias G t)
 
 abbrev pub Untrue : Setting → List ℕ → ℕ → ℕ → Type 0
 Untrue G t i j = claim G t i j ≡ due G t i j → ⊥

@@ -2,6 +2,7 @@
 // reader claims. Every call takes every value of its parameters; the rules that the contracts cite are in specs/Rules.antt.
 mod decode;
 mod parts;
+mod published;
 mod records;
 mod setting;
 
@@ -12,6 +13,8 @@ pub use parts::RECORD;
 pub use parts::part;
 pub use parts::value;
 pub use parts::word;
+pub use published::BiasSetting;
+pub use published::PlainSetting;
 pub use records::read;
 pub use setting::PartNumber;
 pub use setting::Setting;

@@ -2,8 +2,9 @@
 ghost use mathlib.Core.Path.{_≡_};
 ghost use Prim.Native.Nat.{_+_, _*_, _^_, _≤_, _<_};
 ghost use lib.ListN.{length};
-ghost use Rattle.ticket.specs.Rules.{mostBound, reading, recordBytes, records, part, recordNumber, firstRefusal, formed};
-ghost use Rattle.ticket.specs.Laws.Limits.{Sizes, Numbers};
+ghost use Rattle.ticket.specs.Rules.{reading, recordBytes, records, part, recordNumber, firstRefusal, formed};
+ghost use Rattle.residue.specs.Rules.{modulus};
+ghost use Rattle.ticket.specs.Laws.Limits.{Within};
 ghost use Rattle.ticket.specs.Laws.All.{all};
 ghost use Rattle.ticket.specs.Laws.Forms.{entriesForm, partAnswer, testedAt, Holds, Ranged};
 ghost use Rattle.ticket.specs.Laws.Passing.{passing, passingAt, rowPassing};
@@ -32,7 +33,7 @@ struct Form {
     outside: u32,
 }
 
-// The answer of the reading and range checks, tests 1 to 9; its number is 0 where the ticket passes them.
+// The answer of the reading and range checks, tests 1 to 9, 17 and 18; its number is 0 where the ticket passes them.
 pub fn read(setting: Setting, ticket: &[u8]) -> Answer
     ensures { λ r. ⌜ r ≡ reading setting (now (ticket .entry)) ⌝ }
 {
@@ -56,7 +57,7 @@ pub fn read(setting: Setting, ticket: &[u8]) -> Answer
     read_records(setting, ticket)
 }
 
-// The answer of the tests 5 to 9, where setting and length pass the tests before them: that of the first part that does not pass.
+// The answer of the tests of the records, where setting and length pass theirs: that of the first part that does not pass.
 fn read_records(setting: Setting, ticket: &[u8]) -> Answer
     requires { ⌜ ReadReady setting (now ticket) ⌝ }
     ensures { λ r. ⌜ r ≡ firstRefusal 0 (records setting) (recordNumber setting (now (ticket .entry))) ⌝ }
@@ -72,12 +73,15 @@ fn read_records(setting: Setting, ticket: &[u8]) -> Answer
     Answer::PASSED
 }
 
-// The answer of a part. The tests are made without a branch first; one by one, for the first that fails, only where some record fails.
+// The answer of a part; one without columns has no records. The tests are made without a branch first; one by one, for the first that fails, only where some record fails.
 fn read_part(setting: Setting, ticket: &[u8], which: PartNumber) -> Answer
-    requires { ⌜ ReadReady setting (now ticket) × (which .0 < 4) ⌝ }
+    requires { ⌜ ReadReady setting (now ticket) × (which .0 < 5) ⌝ }
     ensures { λ r. ⌜ r ≡ partRead setting (now (ticket .entry)) (which .0) ⌝ }
 {
     let form = form_of(setting, which);
+    if form.columns == 0 {
+        return Answer::PASSED;
+    }
     let records = part(setting, ticket, which);
     if (SHORT_ROW < form.columns) && passes(records, form) {
         return Answer::PASSED;
@@ -87,7 +91,7 @@ fn read_part(setting: Setting, ticket: &[u8], which: PartNumber) -> Answer
 
 // What the records of a part have to be.
 fn form_of(setting: Setting, which: PartNumber) -> Form
-    requires { ⌜ Sizes setting × Numbers setting × (which .0 < 4) ⌝ }
+    requires { ⌜ Within setting × (which .0 < 5) ⌝ }
     ensures { λ r. ⌜ MakesTests r (part setting (which .0)) ⌝ }
 {
     let part = which.0;
@@ -95,12 +99,16 @@ fn form_of(setting: Setting, which: PartNumber) -> Form
     let inner = setting.inner as u8;
     let columns = setting.columns as u8;
     if part == 0 {
-        return entries_form(1, rows, inner, setting.bound);
+        return entries_form(1, rows, inner, setting.bound, 7);
     }
     if part == 1 {
-        return entries_form(2, inner, columns, setting.bound);
+        return entries_form(2, inner, columns, setting.bound, 7);
     }
     if part == 2 {
+        let width = setting.bias_columns() as u8;
+        return entries_form(5, rows, width, setting.largest_bias(), 18);
+    }
+    if part == 3 {
         let half = setting.half().0;
         return Form {
             kind: 3,
@@ -122,9 +130,9 @@ fn form_of(setting: Setting, which: PartNumber) -> Form
 }
 
 // What the records of a matrix of entries have to be: its values stand for numbers from -bound to bound.
-fn entries_form(kind: u8, rows: u8, columns: u8, bound: u32) -> Form
-    requires { ⌜ bound ≤ mostBound ⌝ }
-    ensures { λ r. ⌜ r ≡ entriesForm kind rows columns bound ⌝ }
+fn entries_form(kind: u8, rows: u8, columns: u8, bound: u32, outside: u32) -> Form
+    requires { ⌜ 2 * bound < modulus ⌝ }
+    ensures { λ r. ⌜ r ≡ entriesForm kind rows columns bound outside ⌝ }
 {
     Form {
         kind,
@@ -132,7 +140,7 @@ fn entries_form(kind: u8, rows: u8, columns: u8, bound: u32) -> Form
         columns,
         shift: bound,
         limit: 2 * bound + 1,
-        outside: 7,
+        outside,
     }
 }
 

@@ -1,27 +1,25 @@
-// The setting: its tests, 1 to 3, and what it says of a ticket. The calls that say this take every setting; of one beyond its
+// The setting: its tests, 1, 2, 17 and 3, and what it says of a ticket. The calls that say this take every setting; of one beyond its
 // limits they say what the limits come to, so that nothing wraps.
 ghost use mathlib.Core.Path.{_≡_};
 ghost use Prim.Native.Nat.{_*_, min};
-ghost use Rattle.ticket.specs.Rules.{unless, settingNumber, sizesWithin, numbersWithin, fits, within};
-ghost use Rattle.ticket.specs.Rules.{part, partSize, start, ticketLength, halfRange, lift, sumProducts};
+ghost use Rattle.ticket.specs.Rules.{unless, settingNumber, sizesWithin, numbersWithin, biasWithin, fits, within};
+ghost use Rattle.ticket.specs.Rules.{biasBound, biasColumns, part, partSize, start, ticketLength, halfRange, lift, sumProducts};
 ghost use Rattle.ticket.specs.Laws.Limits.{Sizes, Numbers, Clamped, clamped};
 use crate::parts::RECORD;
 use residue::Residue;
 
-// The public parameters of a layer, handed in by the buyer. A is rows by inner, B is inner by columns.
-#[repr(C)]
+// The public parameters of a layer, with a bias or without.
 pub struct Setting {
     pub rows: u32,
     pub inner: u32,
     pub columns: u32,
-    // challenge vectors
     pub vectors: u32,
-    // what the sums are divided by
     pub scale: u32,
-    // the largest absolute value of an entry of A or B
     pub bound: u32,
-    // the bits of a shifted quotient
     pub width: u32,
+    // whether a bias is added to each sum; where it is not, its bound is not read
+    pub biased: bool,
+    pub bias: u32,
 }
 
 // Which part of a ticket, by its number in the ticket's order.
@@ -32,19 +30,21 @@ impl PartNumber {
 
     pub const B: PartNumber = PartNumber(1);
 
-    pub const QUOTIENTS: PartNumber = PartNumber(2);
+    pub const BIAS: PartNumber = PartNumber(2);
 
-    pub const REMAINDERS: PartNumber = PartNumber(3);
+    pub const QUOTIENTS: PartNumber = PartNumber(3);
+
+    pub const REMAINDERS: PartNumber = PartNumber(4);
 
     // how many parts there are
-    pub(crate) const COUNT: u32 = 4;
+    pub(crate) const COUNT: u32 = 5;
 
     // past the last part
     const END: PartNumber = PartNumber(PartNumber::COUNT);
 }
 
 impl Setting {
-    // the largest sizes, scale, bound and width
+    // the largest sizes, scale, bounds and width
     pub const MOST_ROWS: u32 = 32;
 
     pub const MOST_INNER: u32 = 64;
@@ -59,13 +59,15 @@ impl Setting {
 
     const MOST_WIDTH: u32 = 30;
 
-    // the bytes of the longest ticket, which is that of the largest sizes
+    const MOST_BIAS_BOUND: u32 = 1_073_741_824;
+
+    // the bytes of the longest ticket without a bias, which is that of the largest sizes
     pub const LONGEST_TICKET: usize = RECORD
         * (Setting::MOST_ROWS * Setting::MOST_INNER
             + Setting::MOST_INNER * Setting::MOST_COLUMNS
             + 2 * (Setting::MOST_ROWS * Setting::MOST_COLUMNS)) as usize;
 
-    // The first of the tests 1, 2 and 3 that the setting fails, 0 where it passes them.
+    // The first of the tests 1, 2, 17 and 3 that the setting fails, 0 where it passes them.
     pub fn number(self) -> u32
         ensures { λ r. ⌜ r ≡ settingNumber self ⌝ }
     {
@@ -75,7 +77,27 @@ impl Setting {
         if !self.numbers_within() {
             return 2;
         }
-        unless(self.fits(), 3, 0)
+        unless(self.bias_within(), 17, unless(self.fits(), 3, 0))
+    }
+
+    // The largest absolute value of a bias entry; 0 where there is no bias.
+    pub fn largest_bias(self) -> u32
+        ensures { λ r. ⌜ r ≡ biasBound self ⌝ }
+    {
+        if self.biased {
+            return self.bias;
+        }
+        0
+    }
+
+    // How many columns the bias has; 0 where there is none.
+    pub fn bias_columns(self) -> u32
+        ensures { λ r. ⌜ r ≡ biasColumns self ⌝ }
+    {
+        if self.biased {
+            return self.columns;
+        }
+        0
     }
 
     // How many records a part has.
@@ -90,7 +112,10 @@ impl Setting {
         if part == 1 {
             return s.inner * s.columns;
         }
-        if 4 <= part {
+        if part == 2 {
+            return s.rows * s.bias_columns();
+        }
+        if 5 <= part {
             return 0;
         }
         s.rows * s.columns
@@ -102,7 +127,8 @@ impl Setting {
     {
         let part = which.0;
         let b = self.size(PartNumber::A);
-        let quotients = b + self.size(PartNumber::B);
+        let bias = b + self.size(PartNumber::B);
+        let quotients = bias + self.size(PartNumber::BIAS);
         let remainders = quotients + self.size(PartNumber::QUOTIENTS);
         let end = remainders + self.size(PartNumber::REMAINDERS);
         if part == 0 {
@@ -112,9 +138,12 @@ impl Setting {
             return b;
         }
         if part == 2 {
-            return quotients;
+            return bias;
         }
         if part == 3 {
+            return quotients;
+        }
+        if part == 4 {
             return remainders;
         }
         end
@@ -171,6 +200,8 @@ impl Setting {
             scale: least(self.scale, Setting::MOST_SCALE),
             bound: self.bound,
             width: least(self.width, Setting::MOST_WIDTH),
+            biased: self.biased,
+            bias: self.bias,
         }
     }
 
@@ -191,12 +222,19 @@ impl Setting {
             & within(1, Setting::MOST_WIDTH, self.width)
     }
 
+    fn bias_within(self) -> bool
+        ensures { λ r. ⌜ r ≡ biasWithin self ⌝ }
+    {
+        self.largest_bias() <= Setting::MOST_BIAS_BOUND
+    }
+
     fn fits(self) -> bool
         requires { ⌜ Sizes self × Numbers self ⌝ }
         ensures { λ r. ⌜ r ≡ fits self ⌝ }
     {
         let bound = self.bound as u64;
-        let reach = (self.inner as u64) * (bound * bound) + (self.scale as u64) - 1;
+        let sum = (self.inner as u64) * (bound * bound);
+        let reach = sum + (self.largest_bias() as u64) + (self.scale as u64) - 1;
         let lift = self.lift();
         (reach <= lift) & (2 * lift < Residue::modulus() as u64)
     }

@@ -4,9 +4,11 @@
 --   size-entryA, size-entryB   an entry is at most the bound in size
 --   shifted-below, size-quotient   a shifted quotient is in its range, and a quotient is at most half of it in size
 --   remainder-below, small-remainder   a remainder is a natural number below the scale
---   claim-is, due-is           what a claim puts for its sum, and what it is compared with, written out
---   exactSum-is                an exact sum is an entry of the product of the two matrices
---   size-sum-of                an exact sum of entries within the bound is at most as large as a sum can be
+--   bias-entry, no-bias-entry  a bias entry, where there is a bias and where there is none
+--   size-bias                  it is at most its bound in size
+--   claim-is                   what a claim puts for its sum, written out
+--   biasedSum-is               an exact sum with its bias is an entry of the product of the two matrices, and that of the third added
+--   size-sum-of                of entries within their bounds it is at most as large as it can be
 --   size-due                   so is what a claim is compared with
 --   claims-close               a claim and what it is compared with are less than p apart
 --   residue-entryA, residue-entryB, residue-quotient, residue-remainder   a record's value is the least residue of what it stands for
@@ -18,10 +20,11 @@ use native.Mathlib.Nat.{div-add-mod, mul-le-mul-left}
 use native.Mathlib.Omega.{arith}
 use mathlib.Core.Path.{_≡_, refl, _∙_}
 use mathlib.Core.Logic.{_⊎_, inl, inr, ⊎-elim}
+use mathlib.Core.Bool.{true, false}
 use mathlib.Core.List.{List}
 use borrow.Author.Tests.{leb-true, ltb-true}
 use lib.IntN.{ℤ, pos, negsuc, natAbs, _+ℤ_, _-ℤ_, _*ℤ_, ℤ-discrete}
-use Rattle.residue.specs.Rules.{modulus, leastResidue}
+use Rattle.residue.specs.Rules.{modulus, leastResidue, signedEntry}
 use Rattle.residue.specs.Laws.Integers.{positive, negative, parts-difference}
 use Rattle.residue.specs.Laws.Residues.{residue-of-entry, residue-of-residue, residue-shift}
 use Rattle.residue.specs.Laws.Modulus.{modulus-positive}
@@ -29,10 +32,10 @@ use Rattle.algebra.specs.Rules.{matrixProduct}
 use Rattle.algebra.specs.Laws.IntegerSums.{size-sum, size-difference, size-product}
 use Rattle.algebra.specs.Laws.MatrixProducts.{size-matrixProduct}
 use Rattle.ticket.specs.declared.setting.Setting.{Setting}
-use Rattle.ticket.specs.Rules.{reach, halfRange, isEntry, shiftedQuotient, parts, part, ofA, ofB, ofQuotients, ofRemainders, valueIn, entryA, entryB, quotient, remainder, claim, exactSum, due, Untrue, FalseIn}
-use Rattle.ticket.specs.Laws.First.{all-or-first}
-use Rattle.ticket.specs.Laws.Limits.{half-double}
-use Rattle.ticket.specs.Laws.Passes.{Passed, valid}
+use Rattle.ticket.specs.Rules.{reach, halfRange, isEntry, shiftedQuotient, parts, part, ofA, ofB, ofBias, ofQuotients, ofRemainders, biasBound, biasColumns, valueIn, entryA, entryB, entryBias, quotient, remainder, claim, exactSum, biasedSum, due, Untrue, FalseIn}
+use Rattle.ticket.specs.Laws.First.{true-or-false, all-or-first}
+use Rattle.ticket.specs.Laws.Limits.{half-double, with-bias}
+use Rattle.ticket.specs.Laws.Passes.{Passed, Valid, valid}
 
 -- the size of the difference of two numbers that are at most b apart
 size-between : (z : ℤ) (u v b : ℕ) → positive z + v ≡ u + negative z → u ≤ v + b → v ≤ u + b → natAbs z ≤ b
@@ -43,14 +46,24 @@ pub claim-is : (G : Setting) (t : List ℕ) (i j : ℕ) → claim G t i j ≡ po
 unfolding claim
 claim-is G t i j = refl
 
-pub due-is : (G : Setting) (t : List ℕ) (i j : ℕ) → due G t i j ≡ exactSum G (entryA G t) (entryB G t) i j
-unfolding due
-due-is G t i j = refl
+module _ (G : Setting) (t : List ℕ) (i j : ℕ) where
+  pub bias-entry : G .biased ≡ true → entryBias G t i j ≡ signedEntry modulus (valueIn G t ofBias i j)
+  unfolding entryBias
+  bias-entry e = rw e
 
-pub size-sum-of : (G : Setting) (A B : ℕ → ℕ → ℤ) (i j : ℕ) → ((k : ℕ) → k < G .inner → natAbs (A i k) ≤ G .bound)
-    → ((k : ℕ) → k < G .inner → natAbs (B k j) ≤ G .bound) → natAbs (exactSum G A B i j) ≤ reach G
-unfolding exactSum
-size-sum-of G A B i j a b = size-matrixProduct (G .inner) A B i j a b
+  pub no-bias-entry : G .biased ≡ false → entryBias G t i j ≡ pos 0
+  unfolding entryBias
+  no-bias-entry e = rw e
+
+pub biasedSum-is : (G : Setting) (A B C : ℕ → ℕ → ℤ) (i j : ℕ) → biasedSum G A B C i j ≡ matrixProduct (G .inner) A B i j +ℤ C i j
+unfolding exactSum biasedSum
+biasedSum-is G A B C i j = refl
+
+pub size-sum-of : (G : Setting) (A B C : ℕ → ℕ → ℤ) (i j : ℕ) → ((k : ℕ) → k < G .inner → natAbs (A i k) ≤ G .bound)
+    → ((k : ℕ) → k < G .inner → natAbs (B k j) ≤ G .bound) → natAbs (C i j) ≤ biasBound G → natAbs (biasedSum G A B C i j) ≤ reach G
+size-sum-of G A B C i j a b c =
+    let S = matrixProduct (G .inner) A B i j in
+    rw (biasedSum-is G A B C i j) (omega (arith, size-sum S (C i j), size-matrixProduct (G .inner) A B i j a b))
 
 module _ {G : Setting} {t : List ℕ} (passed : Passed G t) where
   pub size-entryA : (i k : ℕ) → i < G .rows → k < G .inner → natAbs (entryA G t i k) ≤ G .bound
@@ -62,6 +75,18 @@ module _ {G : Setting} {t : List ℕ} (passed : Passed G t) where
   size-entryB k j l m = leb-true _ _ (valid passed ofB k j l m .in-range)
 
   module _ (i j : ℕ) (l : i < G .rows) (m : j < G .columns) where
+    valid-bias : G .biased ≡ true → Valid (part G ofBias) (valueIn G t ofBias i j)
+    unfolding parts part
+    valid-bias e = valid passed ofBias i j l (rw (with-bias G e .1) m)
+
+    pub size-bias : natAbs (entryBias G t i j) ≤ biasBound G
+    unfolding parts part isEntry
+    size-bias =
+        ⊎-elim
+        (λ e. rw (bias-entry G t i j e) (leb-true _ _ (valid-bias e .in-range)))
+        (λ e. rw (no-bias-entry G t i j e) (omega arith))
+        (true-or-false (G .biased))
+
     pub shifted-below : shiftedQuotient (G .width) (valueIn G t ofQuotients i j) < 2 ^ G .width
     unfolding parts part
     shifted-below = ltb-true _ _ (valid passed ofQuotients i j l m .in-range)
@@ -83,8 +108,8 @@ module _ {G : Setting} {t : List ℕ} (passed : Passed G t) where
     small-remainder = (valueIn G t ofRemainders i j, remainder-below, refl)
 
     pub size-due : natAbs (due G t i j) ≤ reach G
-    unfolding due
-    size-due = size-sum-of G (entryA G t) (entryB G t) i j (λ k h. size-entryA i k l h) (λ k h. size-entryB k j h m)
+    size-due =
+        size-sum-of G (entryA G t) (entryB G t) (entryBias G t) i j (λ k h. size-entryA i k l h) (λ k h. size-entryB k j h m) size-bias
 
     pub claims-close : natAbs (claim G t i j -ℤ due G t i j) < modulus
     unfolding claim remainder
@@ -132,7 +157,3 @@ ticket-decided G t =
   where
     column-decided : (j : ℕ) → ((i : ℕ) → i < G .rows → claim G t i j ≡ due G t i j) ⊎ ((i : ℕ) × (i < G .rows) × Untrue G t i j)
     column-decided j = ⊎-elim inl (λ o. inr (o .0, o .1, o .3)) (all-or-first (λ i. claim-decided G t i j) (G .rows))
-
-pub exactSum-is : (G : Setting) (A B : ℕ → ℕ → ℤ) (i j : ℕ) → exactSum G A B i j ≡ matrixProduct (G .inner) A B i j
-unfolding exactSum
-exactSum-is G A B i j = refl

@@ -1,6 +1,6 @@
 -- The form that the code gives the tests of a part, and that they are the rule's.
 --
---   entriesForm κ m n T  the form of m by n entries from -T to T, of kind κ
+--   entriesForm κ m n T c   the form of m by n entries from -T to T, of kind κ, where c is the number of one out of range
 --   quotientsForm G, remaindersForm G   the forms of the quotients and of the remainders
 --   testedAt b F i r c   the number of record i of b by the form F, which stands in row r, column c
 --   tested b F i         the same, the row and the column from i
@@ -40,9 +40,9 @@ use Rattle.ticket.specs.declared.Answer.{Answer}
 use Rattle.ticket.specs.declared.setting.Setting.{Setting}
 use Rattle.ticket.specs.declared.records.Form.{Form}
 
-abbrev pub entriesForm : ℕ → ℕ → ℕ → ℕ → Form
-entriesForm kind rows columns bound =
-    record { kind = kind; rows = rows; columns = columns; shift = bound; limit = 2 * bound + 1; outside = 7 }
+abbrev pub entriesForm : ℕ → ℕ → ℕ → ℕ → ℕ → Form
+entriesForm kind rows columns bound outside =
+    record { kind = kind; rows = rows; columns = columns; shift = bound; limit = 2 * bound + 1; outside = outside }
 
 abbrev pub quotientsForm : Setting → Form
 quotientsForm G =

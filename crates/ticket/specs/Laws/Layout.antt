@@ -7,7 +7,7 @@
 --   size-claims           the size of a part of claims
 --   size-past, start-past past the last part there are no records, and all come before
 --   length-is             how many bytes a ticket has
---   longestTicket, length-most   the most bytes that a ticket within the limits has
+--   longestTicket, length-most   the most bytes that a ticket without a bias, within the limits, has
 --   start-of-B            the part that holds B starts at byte 8 · rows · inner
 --   partBytes G t w       the bytes of part w
 --   bytes-cut             they are cut from the ticket, each end as far as the ticket goes
@@ -20,9 +20,9 @@
 --   locatedTests G t k w i j, tests-located   the tests of record k by its part, row and column
 --   value-in              the value in a row and a column of a part is that of its record
 --   PartIs G w κ r c      part w has kind κ, r rows and c columns
---   part-A, part-B, part-quotients, part-remainders   the parts by name
---   range-A, range-B, range-quotients, range-remainders   which values are in range
---   each-part             what holds of each of the four parts holds of every part
+--   part-A, part-B, part-bias, part-quotients, part-remainders   the parts by name
+--   range-A, range-B, range-bias, range-quotients, range-remainders   which values are in range
+--   each-part             what holds of each of the five parts holds of every part
 --   every-part            what holds of each row and column of each of them holds of those of every part
 use Prim.Native.Nat.{ℕ, zero, suc, _+_, _-_, _*_, _/_, _%_, _^_, _≤_, _<_, min}
 use native.Mathlib.Nat.{add-sub-cancel-left, min-eq-left, min-eq-right, mod-lt, div-add-mod', div-lt-iff-lt-mul}
@@ -40,7 +40,7 @@ use lib.Seq.{take-all, take-nil, take-length, drop-length, getD-drop, getD-take,
 use Rattle.residue.specs.Rules.{modulus, signedEntry}
 use Rattle.algebra.specs.Laws.Fills.{digits-same}
 use Rattle.ticket.specs.declared.setting.Setting.{Setting}
-use Rattle.ticket.specs.Rules.{mostRows, mostInner, mostColumns, halfRange, isEntry, shiftedQuotient, Test, test, Part, noPart, parts, part, partSize, count, start, records, recordBytes, ticketLength, holder, ofA, ofB, ofQuotients, ofRemainders, byteAt, valueAt, formed, partTests, recordTests, valueIn}
+use Rattle.ticket.specs.Rules.{mostRows, mostInner, mostColumns, halfRange, isEntry, shiftedQuotient, Test, test, Part, noPart, parts, part, partSize, count, start, records, recordBytes, ticketLength, holder, ofA, ofB, ofBias, ofQuotients, ofRemainders, biasBound, biasColumns, byteAt, valueAt, formed, partTests, recordTests, valueIn}
 use Rattle.ticket.specs.Laws.Limits.{Counts}
 
 -- any list of parts
@@ -111,47 +111,53 @@ module _ (G : Setting) where
 
 -- the parts by name
 pub record PartsAre (G : Setting) : Type 0 where
-  pub four : length (parts G) ≡ 4
+  pub five : length (parts G) ≡ 5
   pub size-A : partSize (part G ofA) ≡ G .rows * G .inner
   pub size-B : partSize (part G ofB) ≡ G .inner * G .columns
+  pub size-bias : partSize (part G ofBias) ≡ G .rows * biasColumns G
   pub size-quotients : partSize (part G ofQuotients) ≡ G .rows * G .columns
   pub size-remainders : partSize (part G ofRemainders) ≡ G .rows * G .columns
   pub start-A : start G ofA ≡ 0
   pub start-B : start G ofB ≡ G .rows * G .inner
-  pub start-quotients : start G ofQuotients ≡ G .rows * G .inner + G .inner * G .columns
-  pub start-remainders : start G ofRemainders ≡ G .rows * G .inner + G .inner * G .columns + G .rows * G .columns
-  pub all : records G ≡ G .rows * G .inner + G .inner * G .columns + 2 * (G .rows * G .columns)
+  pub start-bias : start G ofBias ≡ G .rows * G .inner + G .inner * G .columns
+  pub start-quotients : start G ofQuotients ≡ G .rows * G .inner + G .inner * G .columns + G .rows * biasColumns G
+  pub start-remainders : start G ofRemainders
+      ≡ G .rows * G .inner + G .inner * G .columns + G .rows * biasColumns G + G .rows * G .columns
+  pub all : records G ≡ G .rows * G .inner + G .inner * G .columns + G .rows * biasColumns G + 2 * (G .rows * G .columns)
 
 pub parts-are : (G : Setting) → PartsAre G
 unfolding parts part start records count
 parts-are G =
     record {
-      four = refl;
+      five = refl;
       size-A = refl;
       size-B = refl;
+      size-bias = refl;
       size-quotients = refl;
       size-remainders = refl;
       start-A = refl;
       start-B = omega arith;
+      start-bias = omega arith;
       start-quotients = omega arith;
       start-remainders = omega arith;
       all = omega arith;
     }
 
 module _ (G : Setting) {w : ℕ} where
-  pub size-claims : 1 < w → w < 4 → partSize (part G w) ≡ G .rows * G .columns
+  pub size-claims : 2 < w → w < 5 → partSize (part G w) ≡ G .rows * G .columns
   unfolding parts part
-  size-claims low high = elim (ℕ-discrete w 2) [ yes two ↦ rw two | no other ↦ let three : w ≡ 3 = omega arith in rw three ]
+  size-claims low high = elim (ℕ-discrete w 3) [ yes three ↦ rw three | no other ↦ let four : w ≡ 4 = omega arith in rw four ]
 
-  pub size-past : 4 ≤ w → partSize (part G w) ≡ 0
+  pub size-past : 5 ≤ w → partSize (part G w) ≡ 0
   unfolding part
-  size-past past = ap partSize (List·getD-eq-default (parts G) noPart (omega (arith, parts-are G .four)))
+  size-past past = ap partSize (List·getD-eq-default (parts G) noPart (omega (arith, parts-are G .five)))
 
-  pub start-past : 4 ≤ w → start G w ≡ records G
+  pub start-past : 5 ≤ w → start G w ≡ records G
   unfolding start records
-  start-past past = ap count (take-all w (parts G) (omega (arith, parts-are G .four)))
+  start-past past = ap count (take-all w (parts G) (omega (arith, parts-are G .five)))
 
-pub length-is : (G : Setting) → ticketLength G ≡ 8 * (G .rows * G .inner + G .inner * G .columns + 2 * (G .rows * G .columns))
+pub length-is : (G : Setting)
+    → ticketLength G ≡ 8 * (G .rows * G .inner + G .inner * G .columns + G .rows * biasColumns G + 2 * (G .rows * G .columns))
 unfolding ticketLength
 length-is G = ap (λ n. 8 * n) (parts-are G .all)
 
@@ -161,8 +167,8 @@ start-of-B G = ap (λ n. 8 * n) (parts-are G .start-B)
 abbrev pub longestTicket : ℕ
 longestTicket = recordBytes * (mostRows * mostInner + mostInner * mostColumns + 2 * (mostRows * mostColumns))
 
-pub length-most : {G : Setting} → Counts G → ticketLength G ≤ longestTicket
-length-most {G} counts = omega (arith, length-is G)
+pub length-most : {G : Setting} → Counts G → biasColumns G ≡ 0 → ticketLength G ≤ longestTicket
+length-most {G} counts none = omega (arith, length-is G, ap (λ n. G .rows * n) none)
 
 -- the bytes of a part
 
@@ -287,6 +293,10 @@ module _ (G : Setting) where
   unfolding parts part
   part-B = record { kind-is = refl; rows-are = refl; columns-are = refl }
 
+  pub part-bias : PartIs G ofBias 5 (G .rows) (biasColumns G)
+  unfolding parts part
+  part-bias = record { kind-is = refl; rows-are = refl; columns-are = refl }
+
   pub part-quotients : PartIs G ofQuotients 3 (G .rows) (G .columns)
   unfolding parts part
   part-quotients = record { kind-is = refl; rows-are = refl; columns-are = refl }
@@ -304,6 +314,10 @@ module _ (G : Setting) where
     unfolding parts part isEntry
     range-B = refl
 
+    pub range-bias : part G ofBias .range x ≡ leb (natAbs (signedEntry modulus x)) (biasBound G)
+    unfolding parts part isEntry
+    range-bias = refl
+
     pub range-quotients : part G ofQuotients .range x ≡ ltb ((x + halfRange G) % modulus) (2 ^ G .width)
     unfolding parts part shiftedQuotient
     range-quotients = refl
@@ -312,17 +326,18 @@ module _ (G : Setting) where
     unfolding parts part
     range-remainders = refl
 
-  pub each-part : (Q : ℕ → Type 0) → Q ofA → Q ofB → Q ofQuotients → Q ofRemainders → (w : ℕ) → w < length (parts G) → Q w
+  pub each-part : (Q : ℕ → Type 0) → Q ofA → Q ofB → Q ofBias → Q ofQuotients → Q ofRemainders → (w : ℕ) → w < length (parts G) → Q w
   unfolding parts
-  each-part Q a b q r zero h = a
-  each-part Q a b q r (suc zero) h = b
-  each-part Q a b q r (suc (suc zero)) h = q
-  each-part Q a b q r (suc (suc (suc zero))) h = r
-  each-part Q a b q r (suc (suc (suc (suc w)))) h = absurd (omega arith)
+  each-part Q a b c q r zero h = a
+  each-part Q a b c q r (suc zero) h = b
+  each-part Q a b c q r (suc (suc zero)) h = c
+  each-part Q a b c q r (suc (suc (suc zero))) h = q
+  each-part Q a b c q r (suc (suc (suc (suc zero)))) h = r
+  each-part Q a b c q r (suc (suc (suc (suc (suc w))))) h = absurd (omega arith)
 
   pub every-part : (Q : ℕ → ℕ → ℕ → Type 0) → ((i j : ℕ) → i < G .rows → j < G .inner → Q ofA i j)
-      → ((i j : ℕ) → i < G .inner → j < G .columns → Q ofB i j) → ((i j : ℕ) → i < G .rows → j < G .columns → Q ofQuotients i j)
-      → ((i j : ℕ) → i < G .rows → j < G .columns → Q ofRemainders i j)
+      → ((i j : ℕ) → i < G .inner → j < G .columns → Q ofB i j) → ((i j : ℕ) → i < G .rows → j < biasColumns G → Q ofBias i j)
+      → ((i j : ℕ) → i < G .rows → j < G .columns → Q ofQuotients i j) → ((i j : ℕ) → i < G .rows → j < G .columns → Q ofRemainders i j)
       → (w i j : ℕ) → w < length (parts G) → i < part G w .rows → j < part G w .columns → Q w i j
   unfolding parts part
-  every-part Q a b q r w i j h = each-part (λ w. (i j : ℕ) → i < part G w .rows → j < part G w .columns → Q w i j) a b q r w h i j
+  every-part Q a b c q r w i j h = each-part (λ w. (i j : ℕ) → i < part G w .rows → j < part G w .columns → Q w i j) a b c q r w h i j

@@ -7,27 +7,34 @@
 --   Fitted G               the setting fits, as inequalities
 --   sizes-of, numbers-of   the first two, from their tests
 --   Within G, limits-of    all three, from the tests of the setting
---   setting-numbered       the numbers of the tests are 1 to 3
+--   setting-numbered       the number of none of the tests is 0
+--   SettingRow G c, setting-in-table   c is a number of the published table for a setting, and so is that of a test that fails
 --   setting-holds          they all hold, where the number of the setting is 0
+--   with-bias, without-bias   bound and columns of the bias, where there is one and where there is none
+--   bias-columns-most      the bias has at most as many columns as the claims
 --   Counts G, counts       how many records the parts have at most, numbers a challenge list, and products all sums
 --   half-small, half-double   half of the quotients' range is small, and twice that is the range
 --   FitProducts G, fit-products   the products of the test of the fit, none of them large
 --   lift-double            twice the lift, as the fit has it
 --   lift-small             twice the lift of a setting that fits is below p
+--   bias-small             so is twice the bound of its bias
 --   clamped G              the setting with no size, scale or width above its limit
 --   clamped-same           that is the setting itself, where it is within its limits
 --   Clamped G, clamped-small   the width of a clamped setting is not large, nor are products of its numbers
 use Prim.Native.Nat.{ℕ, suc, _+_, _-_, _*_, _^_, _≤_, _<_, min}
-use native.Mathlib.Nat.{mul-le-mul, pow-suc, min-eq-left, min-le-right}
+use native.Mathlib.Nat.{le-trans, mul-le-mul, pow-suc, min-eq-left, min-le-right}
 use native.Mathlib.Omega.{arith}
-use mathlib.Core.Path.{_≡_, ap}
-use mathlib.Core.Bool.{Bool, true, _&&_, and-eq-true-iff}
-use borrow.Author.Tests.{leb-true, ltb-true}
+use mathlib.Core.Path.{_≡_, refl, sym, ap, _∙_}
+use mathlib.Core.Bool.{Bool, true, false, true≢false, _&&_, and-eq-true-iff}
+use mathlib.Core.Logic.{⊎-elim}
+use borrow.Author.Tests.{leb-true, ltb-true, le-leb}
+use lib.Dec.{leb}
 use lib.Pow.{pow-mono}
 use Rattle.residue.specs.Rules.{modulus}
 use Rattle.ticket.specs.declared.setting.Setting.{Setting}
-use Rattle.ticket.specs.Rules.{within, mostRows, mostInner, mostColumns, mostVectors, mostScale, mostBound, mostWidth, reach, halfRange, lift, sizesWithin, numbersWithin, fits, settingTests, settingNumber, sumProducts}
-use Rattle.ticket.specs.Laws.Tests.{AllHold, first-holds, rest-hold, Numbered, tests-hold}
+use Rattle.ticket.specs.Rules.{within, mostRows, mostInner, mostColumns, mostVectors, mostScale, mostBound, mostWidth, mostBiasBound, biasWithin, reach, halfRange, lift, sizesWithin, numbersWithin, fits, settingTests, settingNumber, sumProducts, biasBound, biasColumns}
+use Rattle.ticket.specs.Laws.First.{true-or-false}
+use Rattle.ticket.specs.Laws.Tests.{AllHold, Failed, here, later, first-holds, rest-hold, Numbered, tests-hold}
 
 pub both : (a b : Bool) → (a && b) ≡ true → (a ≡ true) × (b ≡ true)
 both a b e = and-eq-true-iff a b .0 e
@@ -53,7 +60,7 @@ pub record Fitted (G : Setting) : Type 0 where
 -- the products of the test of the fit: none is large
 pub record FitProducts (G : Setting) : Type 0 where
   pub square : G .bound * G .bound ≤ mostBound * mostBound
-  pub sums : reach G ≤ mostInner * (mostBound * mostBound)
+  pub sums : G .inner * (G .bound * G .bound) ≤ mostInner * (mostBound * mostBound)
   pub lifted : lift G ≤ 2 ^ 29 * mostScale
 
 -- the records of A, of B and of the claims, and the numbers of a challenge list: none are many
@@ -62,8 +69,21 @@ pub record Counts (G : Setting) : Type 0 where
   pub entries-A : G .rows * G .inner ≤ mostRows * mostInner
   pub entries-B : G .inner * G .columns ≤ mostInner * mostColumns
   pub claims : G .rows * G .columns ≤ mostRows * mostColumns
+  pub bias : G .rows * biasColumns G ≤ mostRows * mostColumns
   pub challenges : G .vectors * G .columns ≤ mostVectors * mostColumns
   pub products : sumProducts G ≤ mostRows * mostInner * mostColumns
+
+module _ (G : Setting) where
+  pub with-bias : G .biased ≡ true → (biasBound G ≡ G .bias) × (biasColumns G ≡ G .columns)
+  unfolding biasBound biasColumns
+  with-bias e = rw e (refl, refl)
+
+  pub without-bias : G .biased ≡ false → (biasBound G ≡ 0) × (biasColumns G ≡ 0)
+  unfolding biasBound biasColumns
+  without-bias e = rw e (refl, refl)
+
+  pub bias-columns-most : biasColumns G ≤ G .columns
+  bias-columns-most = ⊎-elim (λ e. omega (arith, with-bias e .1)) (λ e. omega (arith, without-bias e .1)) (true-or-false (G .biased))
 
 pub counts : {G : Setting} → Sizes G → Counts G
 counts {G} sizes =
@@ -72,6 +92,7 @@ counts {G} sizes =
       entries-A = mul-le-mul (sizes .rows .1) (sizes .inner .1);
       entries-B = mul-le-mul (sizes .inner .1) (sizes .columns .1);
       claims = mul-le-mul (sizes .rows .1) (sizes .columns .1);
+      bias = mul-le-mul (sizes .rows .1) (le-trans (bias-columns-most G) (sizes .columns .1));
       challenges = mul-le-mul (sizes .vectors .1) (sizes .columns .1);
       products = mul-le-mul (mul-le-mul (sizes .rows .1) (sizes .inner .1)) (sizes .columns .1);
     }
@@ -104,14 +125,29 @@ pub limits-of : (G : Setting) → AllHold (settingTests G) → Within G
 unfolding settingTests
 limits-of G h =
     let rest = rest-hold h in
-    record { sizes = sizes-of G (first-holds h); numbers = numbers-of G (first-holds rest); fitted = fitted-of G (first-holds (rest-hold rest)) }
+    record { sizes = sizes-of G (first-holds h); numbers = numbers-of G (first-holds rest); fitted = fitted-of G (first-holds (rest-hold (rest-hold rest))) }
 
-pub setting-numbered : (G : Setting) → Numbered 1 3 (settingTests G)
+pub setting-numbered : (G : Setting) → Numbered (settingTests G)
 unfolding settingTests Numbered
-setting-numbered G = (omega arith, (omega arith, (omega arith, tt)))
+setting-numbered G = (omega arith, (omega arith, (omega arith, (omega arith, tt))))
 
 pub setting-holds : (G : Setting) → settingNumber G ≡ 0 → AllHold (settingTests G)
-setting-holds G e = tests-hold 1 3 (settingTests G) (omega arith) (setting-numbered G) e
+setting-holds G e = tests-hold (settingTests G) (setting-numbered G) e
+
+-- only a setting with a bias has the number 17
+pub data SettingRow (G : Setting) : ℕ → Type 0 where
+  setting-row : (c : ℕ) → 1 ≤ c → c ≤ 3 → SettingRow G c
+  bias-bound-row : G .biased ≡ true → SettingRow G 17
+
+pub setting-in-table : (G : Setting) {c : ℕ} → Failed (settingTests G) c → SettingRow G c
+unfolding settingTests biasWithin
+setting-in-table G (here e) = setting-row 1 (omega arith) (omega arith)
+setting-in-table G (later a (here e)) = setting-row 2 (omega arith) (omega arith)
+setting-in-table G (later a (later b (here e))) =
+    ⊎-elim bias-bound-row
+    (λ none. absurd (true≢false (sym (le-leb (biasBound G) mostBiasBound (omega (arith, without-bias G none .0))) ∙ e)))
+    (true-or-false (G .biased))
+setting-in-table G (later a (later b (later c (here e)))) = setting-row 3 (omega arith) (omega arith)
 
 pub half-small : {G : Setting} → Numbers G → halfRange G ≤ 2 ^ 29
 half-small {G} numbers = pow-mono {j = 29} (omega arith)
@@ -132,6 +168,9 @@ lift-double {G} numbers = omega (arith, ap (λ n. n * G .scale) (half-double num
 pub lift-small : {G : Setting} → Numbers G → Fitted G → 2 * lift G < modulus
 lift-small numbers fitted = omega (arith, lift-double numbers, fitted .claims)
 
+pub bias-small : {G : Setting} → Numbers G → Fitted G → 2 * biasBound G < modulus
+bias-small numbers fitted = omega (arith, lift-small numbers fitted, fitted .sums, numbers .scale)
+
 -- total calls
 
 unfoldable pub clamped : Setting → Setting
@@ -144,6 +183,8 @@ clamped G =
       scale = min (G .scale) mostScale;
       bound = G .bound;
       width = min (G .width) mostWidth;
+      biased = G .biased;
+      bias = G .bias;
     }
 
 pub clamped-same : {G : Setting} → Sizes G → Numbers G → clamped G ≡ G
@@ -156,6 +197,7 @@ pub record Clamped (G : Setting) : Type 0 where
   pub entries-A : G .rows * G .inner ≤ mostRows * mostInner
   pub entries-B : G .inner * G .columns ≤ mostInner * mostColumns
   pub claims : G .rows * G .columns ≤ mostRows * mostColumns
+  pub bias : G .rows * biasColumns G ≤ mostRows * mostColumns
   pub products : sumProducts G ≤ mostRows * mostInner * mostColumns
   pub width : G .width ≤ mostWidth
   pub lifted : lift G ≤ 2 ^ (mostWidth - 1) * mostScale
@@ -171,6 +213,7 @@ clamped-small G =
       entries-A = mul-le-mul rows inner;
       entries-B = mul-le-mul inner columns;
       claims = mul-le-mul rows columns;
+      bias = mul-le-mul rows (le-trans (bias-columns-most (clamped G)) columns);
       products = mul-le-mul (mul-le-mul rows inner) columns;
       width = width;
       lifted = mul-le-mul (pow-mono {j = mostWidth - 1} (omega arith)) (min-le-right (G .scale) mostScale);

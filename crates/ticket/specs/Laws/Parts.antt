@@ -2,9 +2,11 @@
 --
 --   entry-range        an entry is in range exactly when, shifted by the bound, it is at most twice the bound
 --   MakesTests F P     the form F of the code makes the tests of the part P
+--   bounds-small       twice the bound of the entries, or of the bias, is below p
 --   forms-make         the forms of the parts do
 --   ReadReady G t      setting and length pass their tests
---   PartRecords G t w b F   so they do, b are the bytes of part w, and F makes its tests
+--   part-empty         a part whose form has no columns has no records to refuse
+--   PartRecords G t w b F   setting and length pass, b are the bytes of part w, F makes its tests, and has columns
 --   part-holds, part-early   then the part can be read by its form, and does not start late
 --   partRead G t w, part-answer   the answer of part w, and that it is the code's by the form of the part
 --   ReadTo G t w       the records before part w pass
@@ -13,7 +15,7 @@ use Prim.Native.Nat.{ℕ, _+_, _-_, _*_, _/_, _%_, _^_, _≤_, _<_}
 use native.Mathlib.Nat.{zero-add, add-zero, mod-eq-of-lt}
 use native.Mathlib.Decide.{decLe}
 use native.Mathlib.Omega.{arith}
-use mathlib.Core.Path.{_≡_, refl, sym, _∙_}
+use mathlib.Core.Path.{_≡_, refl, sym, ap, _∙_}
 use mathlib.Core.Bool.{Bool}
 use mathlib.Core.List.{List, [], _∷_}
 use borrow.Author.Tests.{le-ltb}
@@ -27,9 +29,9 @@ use Rattle.residue.specs.Laws.Modulus.{modulus-positive, modulus-above}
 use Rattle.ticket.specs.declared.setting.Setting.{Setting}
 use Rattle.ticket.specs.declared.Answer.{Answer}
 use Rattle.ticket.specs.declared.records.Form.{Form}
-use Rattle.ticket.specs.Rules.{test, firstFailed, Part, parts, part, ofA, ofB, ofQuotients, ofRemainders, partSize, start, records, isEntry, isQuotient, shiftedQuotient, ticketLength, formed, valueAt, partTests, recordTests, recordNumber, refusal, firstRefusal}
-use Rattle.ticket.specs.Laws.Limits.{Numbers, Counts, half-small, half-double, clamped, clamped-same}
-use Rattle.ticket.specs.Laws.Layout.{each-part, parts-are, start-none, start-next, ends-within, start-past, holder-at, partBytes, part-bytes-long, form-of-part, value-of-part}
+use Rattle.ticket.specs.Rules.{test, firstFailed, Part, parts, part, ofA, ofB, ofBias, ofQuotients, ofRemainders, biasBound, biasColumns, partSize, start, records, isEntry, isQuotient, shiftedQuotient, ticketLength, formed, valueAt, partTests, recordTests, recordNumber, refusal, firstRefusal}
+use Rattle.ticket.specs.Laws.Limits.{Numbers, Counts, Within, bias-small, half-small, half-double, clamped, clamped-same}
+use Rattle.ticket.specs.Laws.Layout.{parts-are, start-none, start-next, ends-within, start-past, holder-at, partBytes, part-bytes-long, form-of-part, value-of-part}
 use Rattle.ticket.specs.Laws.Tests.{same-test}
 use Rattle.ticket.specs.Laws.Scans.{refusal-none, refusal-cong, refusal-split, after-passed, after-refused}
 use Rattle.ticket.specs.Laws.Answers.{scan-zero}
@@ -67,19 +69,31 @@ by-shift : (F : Form) (range : ℕ → Bool) → ((v : ℕ) → v < modulus → 
 by-shift F range same shift limit =
     record { kind = refl; rows = refl; columns = refl; outside = refl; range = same; ranged = record { shift = shift; limit = limit } }
 
-module _ {G : Setting} (numbers : Numbers G) where
-  entries : (v : ℕ) → v < modulus → ltb ((v + G .bound) % modulus) (2 * G .bound + 1) ≡ isEntry (G .bound) v
-  unfolding isEntry
-  entries v l = sym (entry-range modulus modulus-positive (G .bound) v (omega (arith, modulus-above)) l)
+entries-make : (kind rows columns bound outside : ℕ) → 2 * bound < modulus
+    → MakesTests (entriesForm kind rows columns bound outside)
+    (record { kind = kind; rows = rows; columns = columns; range = isEntry bound; outside = outside })
+unfolding isEntry
+entries-make kind rows columns bound outside small =
+    by-shift (entriesForm kind rows columns bound outside) (isEntry bound)
+    (λ v l. sym (entry-range modulus modulus-positive bound v (omega arith) l)) (omega arith) (omega arith)
 
-  pub forms-make : MakesTests (entriesForm 1 (G .rows) (G .inner) (G .bound)) (part G ofA)
-      × MakesTests (entriesForm 2 (G .inner) (G .columns) (G .bound)) (part G ofB)
+module _ {G : Setting} (within : Within G) where
+  numbers : Numbers G
+  numbers = within .numbers
+
+  pub bounds-small : (2 * G .bound < modulus) × (2 * biasBound G < modulus)
+  bounds-small = (omega (arith, numbers .bound, modulus-above), bias-small numbers (within .fitted))
+
+  pub forms-make : MakesTests (entriesForm 1 (G .rows) (G .inner) (G .bound) 7) (part G ofA)
+      × MakesTests (entriesForm 2 (G .inner) (G .columns) (G .bound) 7) (part G ofB)
+      × MakesTests (entriesForm 5 (G .rows) (biasColumns G) (biasBound G) 18) (part G ofBias)
       × MakesTests (quotientsForm G) (part G ofQuotients)
       × MakesTests (remaindersForm G) (part G ofRemainders)
   unfolding parts part shiftedQuotient
   forms-make = (
-    by-shift _ (isEntry (G .bound)) entries (omega arith) (omega (arith, modulus-above)),
-    by-shift _ (isEntry (G .bound)) entries (omega arith) (omega (arith, modulus-above)),
+    entries-make _ _ _ _ _ (bounds-small .0),
+    entries-make _ _ _ _ _ (bounds-small .0),
+    entries-make _ _ _ _ _ (bounds-small .1),
     by-shift _ (isQuotient (G .width)) (λ v l. rw (half-double {G = G} numbers)) (omega arith)
         (omega (arith, half-small {G = G} numbers, modulus-above)),
     by-shift _ (λ v. ltb v (G .scale)) (λ v l. rw (add-zero v, mod-eq-of-lt l)) (omega arith) (omega (arith, modulus-above)),
@@ -96,37 +110,36 @@ number-range form value a b outside h =
 -- setting and length pass
 pub record ReadReady (G : Setting) (t : List ℕ) : Type 0 where
   pub counts : Counts G
-  pub numbers : Numbers G
+  pub within : Within G
   pub long : length t ≡ ticketLength G
 
 unfoldable pub partRead : Setting → List ℕ → ℕ → Answer
 partRead G t w = firstRefusal (start G w) (partSize (part G w)) (λ i. recordNumber G t (start G w + i))
 
+pub part-empty : (G : Setting) (t : List ℕ) (w : ℕ) {F : Form} → MakesTests F (part G w) → F .columns ≡ 0 → refusal 0 0 ≡ partRead G t w
+unfolding partRead
+part-empty G t w makes none =
+    let size : partSize (part G w) ≡ 0 = omega (arith, ap (λ n. part G w .rows * n) (sym (makes .columns) ∙ none)) in
+    sym (refusal-none (start G w) (partSize (part G w)) _ (λ k l. absurd (omega arith)))
+
 -- b are the bytes of a part that can be read, and F makes its tests
 pub record PartRecords (G : Setting) (t : List ℕ) (w : ℕ) (b : List ℕ) (F : Form) : Type 0 where
   pub ready : ReadReady G t
-  pub known : w < 4
   pub bytes : b ≡ partBytes (clamped G) t w
   pub makes : MakesTests F (part G w)
+  pub wide : 1 ≤ F .columns
 
 module _ {G : Setting} {t : List ℕ} {w : ℕ} {b : List ℕ} {F : Form} (part-is : PartRecords G t w b F) where
   same : clamped G ≡ G
-  same = clamped-same (part-is .ready .counts .sizes) (part-is .ready .numbers)
+  same = clamped-same (part-is .ready .counts .sizes) (part-is .ready .within .numbers)
 
   size : F .rows * F .columns ≡ partSize (part G w)
   size = rw (part-is .makes .rows, part-is .makes .columns)
 
-  -- no part of a setting within its limits is without columns
-  wide : 1 ≤ part G w .columns
-  unfolding parts part
-  wide =
-      let s = part-is .ready .counts .sizes in
-      each-part G (λ w. 1 ≤ part G w .columns) (s .inner .0) (s .columns .0) (s .columns .0) (s .columns .0) w (part-is .known)
-
   pub part-holds : Holds b F
   part-holds =
       record {
-        columns = rw (part-is .makes .columns) wide;
+        columns = part-is .wide;
         few = omega (arith, size, ends-within G w, parts-are G .all, part-is .ready .counts);
         long = rw (part-is .bytes, same) (omega (arith, size, part-bytes-long G t w (part-is .ready .long)));
         range = part-is .makes .ranged;
@@ -161,7 +174,7 @@ module _ (G : Setting) (t : List ℕ) where
   pub read-none : ReadTo G t 0
   read-none = scan-zero 0 (start G 0) (recordNumber G t) .1 (λ k l. absurd (omega (arith, start-none G)))
 
-  pub read-all : {w : ℕ} → 4 ≤ w → ReadTo G t w → refusal 0 0 ≡ firstRefusal 0 (records G) (recordNumber G t)
+  pub read-all : {w : ℕ} → 5 ≤ w → ReadTo G t w → refusal 0 0 ≡ firstRefusal 0 (records G) (recordNumber G t)
   read-all past passed =
       let zeros = scan-zero 0 (start G _) (recordNumber G t) .0 passed in
       sym (refusal-none 0 (records G) (recordNumber G t) (λ k l. zeros k (omega (arith, start-past G past))))

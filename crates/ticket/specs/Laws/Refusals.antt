@@ -1,18 +1,18 @@
--- Every number from 1 to 9 is given exactly when its condition holds and no earlier test fails (T3).
+-- Every number from 1 to 9, and 17 and 18, is given exactly when its condition holds and no earlier test fails (T3).
 --
 --   PassedTo G t k         the setting and the length pass, and every record before k does
 --   Refused G t c k        the condition of the number c with the place k, no earlier test failing: the first test of the setting that
 --                          fails, the length, or the first test that fails of the first record that does not pass
---   record-numbered        the numbers of a record's tests are 5 to 9
+--   record-numbered        the number of none of a record's tests is 0
 --   records-read           where setting and length pass, reading is that of the records
 --   passed-reading         where all tests pass, reading answers 0
 --   refused-reading        where the condition of a number holds, reading answers that number
 --   wrong-length           reading of a ticket of another length
 --   passed-or-refused      one of the two is so
---   refused-number         the number of a refusal is 1 to 9
+--   refused-number         the number of a refusal is not 0
 --   reading-zero-exactly   reading answers 0 exactly when all tests pass
 --   refusal-exactly        reading refuses with a number and a place exactly under their condition
---   ReadingRow G a         the answer a is a row of the published table with a number from 1 to 9, within its bounds
+--   ReadingRow G a         the answer a is a row of the published table for these tests, within its bounds
 --   refused-in-table       every refusal is one
 use Prim.Native.Nat.{ℕ, _+_, _≤_, _<_}
 use native.Mathlib.Decide.{ℕ-discrete}
@@ -25,8 +25,8 @@ use lib.ListN.{length}
 use Rattle.ticket.specs.declared.setting.Setting.{Setting}
 use Rattle.ticket.specs.declared.Answer.{Answer}
 use Rattle.ticket.specs.Rules.{refusal, settingTests, settingNumber, parts, part, partSize, start, records, ticketLength, recordTests, recordNumber, firstRefusal, after, recordsReading, reading}
-use Rattle.ticket.specs.Laws.Tests.{AllHold, Failed, Numbered, here, later, hold-or-failed, holding-number, failed-number, failed-within, tests-hold}
-use Rattle.ticket.specs.Laws.Limits.{setting-numbered}
+use Rattle.ticket.specs.Laws.Tests.{AllHold, Failed, Numbered, here, later, hold-or-failed, holding-number, failed-number, failed-positive, tests-hold}
+use Rattle.ticket.specs.Laws.Limits.{setting-numbered, SettingRow, setting-in-table}
 use Rattle.ticket.specs.Laws.Layout.{each-part, located-at, locatedTests, tests-located}
 use Rattle.ticket.specs.Laws.Scans.{refusal-none, refusal-is, zeros-or-first, after-passed, after-refused}
 
@@ -40,24 +40,23 @@ pub data Refused (G : Setting) (t : List ℕ) : ℕ → ℕ → Type 0 where
   by-length : AllHold (settingTests G) → (length t ≡ ticketLength G → ⊥) → Refused G t 4 0
   by-record : {c k : ℕ} → PassedTo G t k → k < records G → Failed (recordTests G t k) c → Refused G t c k
 
--- the number of a value out of range is 7 to 9
-outside-within : (G : Setting) {w : ℕ} → w < length (parts G) → (7 ≤ part G w .outside) × (part G w .outside ≤ 9)
+outside-numbered : (G : Setting) {w : ℕ} → w < length (parts G) → 1 ≤ part G w .outside
 unfolding parts part
-outside-within G {w} m =
-    each-part G (λ w. (7 ≤ part G w .outside) × (part G w .outside ≤ 9)) (omega arith) (omega arith) (omega arith) (omega arith) w m
+outside-numbered G {w} m =
+    each-part G (λ w. 1 ≤ part G w .outside) (omega arith) (omega arith) (omega arith) (omega arith) (omega arith) w m
 
-pub record-numbered : (G : Setting) (t : List ℕ) {k : ℕ} → k < records G → Numbered 5 9 (recordTests G t k)
+pub record-numbered : (G : Setting) (t : List ℕ) {k : ℕ} → k < records G → Numbered (recordTests G t k)
 unfolding Numbered
 record-numbered G t {k} l =
     let at = located-at G k l in
-    let outside = outside-within G (at .1 .within) in
+    let outside = outside-numbered G (at .1 .within) in
     rw (tests-located t (at .2)) (omega arith, (omega arith, (omega arith, tt)))
 
 module _ (G : Setting) (t : List ℕ) where
-  pub refused-number : {c k : ℕ} → Refused G t c k → (1 ≤ c) × (c ≤ 9)
-  refused-number (by-setting f) = let n = failed-within (settingTests G) (setting-numbered G) f in (omega arith, omega arith)
-  refused-number (by-length s d) = (omega arith, omega arith)
-  refused-number (by-record {k = k} p l f) = let n = failed-within (recordTests G t k) (record-numbered G t l) f in (omega arith, omega arith)
+  pub refused-number : {c k : ℕ} → Refused G t c k → 1 ≤ c
+  refused-number (by-setting f) = failed-positive (settingTests G) (setting-numbered G) f
+  refused-number (by-length s d) = omega arith
+  refused-number (by-record {k = k} p l f) = failed-positive (recordTests G t k) (record-numbered G t l) f
 
   setting-passed : AllHold (settingTests G) → reading G t ≡ recordsReading G t
   unfolding reading
@@ -75,14 +74,14 @@ module _ (G : Setting) (t : List ℕ) where
   refused-reading (by-setting f) =
       let number : settingNumber G ≡ _ = failed-number f in
       after-refused (refusal (settingNumber G) 0) (recordsReading G t)
-      (λ z. omega (arith, failed-within (settingTests G) (setting-numbered G) f))
+      (λ z. omega (arith, failed-positive (settingTests G) (setting-numbered G) f))
       ∙ ap (λ c. refusal c 0) number
   refused-reading (by-length s d) = setting-passed s ∙ rw (ne-eqb (length t) (ticketLength G) d)
   refused-reading (by-record {c} {k} p l f) =
       let number : recordNumber G t k ≡ c = failed-number f in
       records-read (p .setting) (p .long)
       ∙ refusal-is 0 (records G) k (recordNumber G t) l (λ i m. holding-number (p .before i m))
-      (λ z. omega (arith, failed-within (recordTests G t k) (record-numbered G t l) f))
+      (λ z. omega (arith, failed-positive (recordTests G t k) (record-numbered G t l) f))
       ∙ ap (λ c. refusal c (0 + k)) number ∙ ap (refusal c) (omega arith)
 
   pub wrong-length : (length t ≡ ticketLength G → ⊥) → reading G t ≡ after (refusal (settingNumber G) 0) (refusal 4 0)
@@ -90,7 +89,7 @@ module _ (G : Setting) (t : List ℕ) where
   wrong-length d = rw (ne-eqb (length t) (ticketLength G) d)
 
   record-passed : {k : ℕ} → k < records G → recordNumber G t k ≡ 0 → AllHold (recordTests G t k)
-  record-passed {k} l z = tests-hold 5 9 (recordTests G t k) (omega arith) (record-numbered G t l) z
+  record-passed {k} l z = tests-hold (recordTests G t k) (record-numbered G t l) z
 
   pub passed-or-refused : PassedTo G t (records G) ⊎ ((c : ℕ) × (k : ℕ) × Refused G t c k)
   passed-or-refused =
@@ -132,7 +131,8 @@ module _ (G : Setting) (t : List ℕ) where
   )
 
 pub data ReadingRow (G : Setting) : Answer → Type 0 where
-  setting-or-length-row : (c : ℕ) → 1 ≤ c → c ≤ 4 → ReadingRow G (refusal c 0)
+  by-setting-row : {c : ℕ} → SettingRow G c → ReadingRow G (refusal c 0)
+  length-row : ReadingRow G (refusal 4 0)
   record-row : (c k : ℕ) → 5 ≤ c → c ≤ 6 → k < records G → ReadingRow G (refusal c k)
   range-row : (w k : ℕ) → start G w ≤ k → k < start G w + partSize (part G w) → ReadingRow G (refusal (part G w .outside) k)
 
@@ -144,9 +144,8 @@ record-in-table G t k w row column l from below (later a (here e)) = record-row 
 record-in-table G t k w row column l from below (later a (later b (here e))) = range-row w k from below
 
 pub refused-in-table : {G : Setting} {t : List ℕ} {c k : ℕ} → Refused G t c k → ReadingRow G (refusal c k)
-refused-in-table {G} {c = c} (by-setting f) =
-    let n = failed-within (settingTests G) (setting-numbered G) f in setting-or-length-row c (n .0) (omega arith)
-refused-in-table (by-length s d) = setting-or-length-row 4 (omega arith) (omega arith)
+refused-in-table {G} (by-setting f) = by-setting-row (setting-in-table G f)
+refused-in-table (by-length s d) = length-row
 refused-in-table {G} {t} (by-record {k = k} p l f) =
     let at = located-at G k l in
     record-in-table G t k (at .0) _ _ l (at .1 .from) (at .1 .below) (rw (tests-located t (at .2)) at f)

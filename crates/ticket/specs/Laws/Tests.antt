@@ -5,8 +5,8 @@
 --   hold-or-failed     one of the two is so
 --   holding-number     where all hold, the number is 0
 --   failed-number      else it is that of the first that fails
---   Numbered a b l     the numbers of the tests are from a to b
---   failed-within      so is then the number of the first that fails
+--   Numbered l         the number of no test is 0
+--   failed-positive    nor is then that of the first that fails
 --   tests-hold         all hold, where the number is 0 and that of no test is
 --   same-test          two comparisons that say the same are equal
 --   first-holds, rest-hold   the first of several tests that all hold does, and so do the others
@@ -30,9 +30,9 @@ pub data Failed : List Test → ℕ → Type 0 where
   here : {T : Test} {rest : List Test} → T .holds ≡ false → Failed (T ∷ rest) (T .number)
   later : {T : Test} {rest : List Test} {c : ℕ} → T .holds ≡ true → Failed rest c → Failed (T ∷ rest) c
 
-unfoldable pub Numbered : ℕ → ℕ → List Test → Type 0
-Numbered low high [] = Unit
-Numbered low high (T ∷ rest) = ((low ≤ T .number) × (T .number ≤ high)) × Numbered low high rest
+unfoldable pub Numbered : List Test → Type 0
+Numbered [] = Unit
+Numbered (T ∷ rest) = (1 ≤ T .number) × Numbered rest
 
 pub first-holds : {T : Test} {rest : List Test} → AllHold (T ∷ rest) → T .holds ≡ true
 first-holds (one h r) = h
@@ -58,14 +58,14 @@ unfolding firstFailed
 failed-number (here e) = rw e
 failed-number (later h f) = rw h (failed-number f)
 
-pub failed-within : {low high c : ℕ} (l : List Test) → Numbered low high l → Failed l c → (low ≤ c) × (c ≤ high)
+pub failed-positive : {c : ℕ} (l : List Test) → Numbered l → Failed l c → 1 ≤ c
 unfolding Numbered
-failed-within (T ∷ rest) numbered (here e) = numbered .0
-failed-within (T ∷ rest) numbered (later h f) = failed-within rest (numbered .1) f
+failed-positive (T ∷ rest) numbered (here e) = numbered .0
+failed-positive (T ∷ rest) numbered (later h f) = failed-positive rest (numbered .1) f
 
-pub tests-hold : (low high : ℕ) (l : List Test) → 1 ≤ low → Numbered low high l → firstFailed l ≡ 0 → AllHold l
-tests-hold low high l above numbered e =
-    ⊎-elim (λ h. h) (λ f. absurd (omega (arith, failed-within l numbered (f .1), failed-number (f .1)))) (hold-or-failed l)
+pub tests-hold : (l : List Test) → Numbered l → firstFailed l ≡ 0 → AllHold l
+tests-hold l numbered e =
+    ⊎-elim (λ h. h) (λ f. absurd (omega (arith, failed-positive l numbered (f .1), failed-number (f .1)))) (hold-or-failed l)
 
 pub same-test : (a b c d : ℕ) → (a ≤ b → c < d) → (c < d → a ≤ b) → leb a b ≡ ltb c d
 same-test a b c d to from =

@@ -29,7 +29,7 @@ returns-2 c = sym (refused-reading _ _ (by-length (holds (c .before .before)) (�
 read-records-requires : tie.Need-read-records-requires
 read-records-requires c κs =
     let limits = limits-of _ (holds (c .before .before)) in
-    record { counts = counts (limits .sizes); numbers = limits .numbers; long = c .if2 .left ∙ long (c .before) }
+    record { counts = counts (limits .sizes); within = limits; long = c .if2 .left ∙ long (c .before) }
 
 returns-3 : tie.Need-returns-3
 returns-3 c =

@@ -6,10 +6,10 @@ use Rattle.ticket.proofs.records.read_records.Statement.{statement}
 use Rattle.ticket.proofs.records.read_records.Tie as tie
 
 abbrev Inv-loop : tie.InvT-loop
-Inv-loop setting ticket which₀ which = (which ≤ 4) × ReadTo setting ticket which
+Inv-loop setting ticket which₀ which = (which ≤ 5) × ReadTo setting ticket which
 
 abbrev μ-loop : tie.MeasureT-loop
-μ-loop setting ticket which₀ which = 4 - which
+μ-loop setting ticket which₀ which = 5 - which
 
 returns : tie.Need-returns Inv-loop μ-loop
 returns c =

@@ -1,5 +1,9 @@
 use native.Mathlib.Omega.{arith}
+use Prim.Native.Nat.{_+_, _-_, _*_, _^_}
 use mathlib.Core.Path.{_≡_, ap, _∙_}
+use mathlib.Core.Bool.{_&&_}
+use lib.Dec.{leb, ltb}
+use Rattle.residue.specs.Rules.{modulus}
 use borrow.Author.Needs.{needs}
 use Rattle.ticket.specs.Rules.{lift, fits}
 use Rattle.ticket.specs.Laws.Limits.{FitProducts, fit-products, clamped-same, lift-double}
@@ -9,20 +13,24 @@ use Rattle.ticket.proofs.setting.Setting.fits.Tie as tie
 small : (c : tie.Start) → FitProducts (c .args .self)
 small c = fit-products (c .pre .0) (c .pre .1)
 
-abbrev start : tie.After-lift → tie.Start
-start c = c .before .before .before .before
+abbrev start : tie.After-largest-bias → tie.Start
+start c = c .before .before .before
 
-lifted : (c : tie.After-lift) → c .lift .result ≡ lift (start c .args .self)
-lifted c = c .lift .ensures ∙ ap lift (clamped-same (start c .pre .0) (start c .pre .1))
+lifted : (c : tie.After-lift) → c .lift .result ≡ lift (start (c .before .before) .args .self)
+lifted c = c .lift .ensures ∙ ap lift (clamped-same (start (c .before .before) .pre .0) (start (c .before .before) .pre .1))
 
 returns : tie.Need-returns
 unfolding fits
-returns c = rw (lifted (c .before), c .modulus .ensures, lift-double (start (c .before) .pre .1))
+returns c =
+    let bias = c .before .before .before in
+    let G = start bias .args .self in
+    rw (lifted (c .before), c .modulus .ensures, lift-double (start bias .pre .1))
+    (ap (λ w. leb (G .inner * (G .bound * G .bound) + w + G .scale - 1) (lift G) && ltb (2 ^ G .width * G .scale) modulus) (bias .largest-bias .ensures))
 
 pub fits-spec : {M : Type 1} → statement M
 fits-spec =
     tie.close
-    (tie.spec (λ c. search needs) (λ c. search needs) (λ c. omega (arith, small (c .before .before)))
-    (λ c. omega (arith, small (c .before .before))) (λ c. search needs) (λ c. omega (arith, small (c .before .before .before)))
-    (λ c. search needs) (λ c κs. search needs) (λ c. omega (arith, lifted c, small (start c))) (λ c κs. search needs)
-    (λ c. search needs) returns)
+    (tie.spec (λ c. search needs) (λ c. search needs) (λ c. omega (arith, small (c .before .before))) (λ c. omega (arith, small (c .before .before)))
+    (λ c κs. search needs) (λ c. search needs) (λ c. omega (arith, small (start c))) (λ c. search needs)
+    (λ c. omega (arith, small (start (c .before)))) (λ c. search needs) (λ c κs. search needs)
+    (λ c. omega (arith, lifted c, small (start (c .before .before)))) (λ c κs. search needs) (λ c. search needs) returns)

@@ -25,11 +25,14 @@ returns-2 c =
 returns-3 : tie.Need-returns-3
 unfolding settingTests firstFailed
 returns-3 c =
-    let two = c .before .before in
-    c .unless .ensures ∙ rw (sizes (two .before .before), numbers two, c .before .fits2 .ensures)
+    let bias = c .before .before .before in
+    let two = bias .before in
+    c .unless2 .ensures
+    ∙ rw (sizes (two .before .before), numbers two, bias .bias-within .ensures, c .before .unless .ensures, c .before .before .fits2 .ensures)
 
 pub number-spec : {M : Type 1} → statement M
 number-spec =
     tie.close
     (tie.spec (λ c κs. search needs) returns (λ c κs. search needs) returns-2
-    (λ c κs. (sizes-of _ (sizes (c .before .before)), numbers-of _ (numbers c))) (λ c κs. search needs) returns-3)
+    (λ c κs. search needs) (λ c κs. (sizes-of _ (sizes (c .before .before .before)), numbers-of _ (numbers (c .before)))) (λ c κs. search needs)
+    (λ c κs. search needs) returns-3)

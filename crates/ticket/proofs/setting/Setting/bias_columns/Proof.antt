@@ -1,0 +1,7 @@
+use mathlib.Core.Path.{sym}
+use Rattle.ticket.specs.Laws.Limits.{with-bias, without-bias}
+use Rattle.ticket.proofs.setting.Setting.bias_columns.Statement.{statement}
+use Rattle.ticket.proofs.setting.Setting.bias_columns.Tie as tie
+
+pub bias-columns-spec : {M : Type 1} → statement M
+bias-columns-spec = tie.close (tie.spec (λ c. sym (with-bias _ (c .if1 .taken) .1)) (λ c. sym (without-bias _ (c .if1 .left) .1)))

@@ -1,0 +1,7 @@
+use mathlib.Core.Path.{sym}
+use Rattle.ticket.specs.Laws.Limits.{with-bias, without-bias}
+use Rattle.ticket.proofs.setting.Setting.largest_bias.Statement.{statement}
+use Rattle.ticket.proofs.setting.Setting.largest_bias.Tie as tie
+
+pub largest-bias-spec : {M : Type 1} → statement M
+largest-bias-spec = tie.close (tie.spec (λ c. sym (with-bias _ (c .if1 .taken) .0)) (λ c. sym (without-bias _ (c .if1 .left) .0)))
