@@ -2,21 +2,27 @@
 
 use crate::answer::Refusal;
 use crate::matrix::product;
+use crate::setting::Terms;
 use crate::ticket::{self, Ticket};
-use crate::{Answer, Setting, P};
+use crate::{least_residue, Answer, BiasSetting, Setting, P};
 
 /// The answer to a setting, the bytes of a ticket and a list, by the order "1,
 /// 2, 3, 4; then record after record, each by 5, 6 and its own range; then 10,
 /// 11, 12".
 pub fn challenge_check(setting: &Setting, ticket: &[u8], list: &[u32]) -> Answer {
-    decide(setting, ticket, list).unwrap_or_else(Answer::from)
+    decide(&Terms::from(setting), ticket, list).unwrap_or_else(Answer::from)
 }
 
-fn decide(setting: &Setting, ticket: &[u8], list: &[u32]) -> Result<Answer, Refusal> {
-    setting.test()?;
-    let ticket = ticket::read(setting, ticket)?;
-    let vectors = read_list(setting, list)?;
-    Ok(challenge(setting, &ticket, &vectors))
+/// The same for a bias ticket, with 17 "after 2" and 18 "where 7 would stand".
+pub fn bias_challenge_check(setting: &BiasSetting, ticket: &[u8], list: &[u32]) -> Answer {
+    decide(&Terms::from(setting), ticket, list).unwrap_or_else(Answer::from)
+}
+
+fn decide(terms: &Terms, ticket: &[u8], list: &[u32]) -> Result<Answer, Refusal> {
+    terms.test()?;
+    let ticket = ticket::read(terms, ticket)?;
+    let vectors = read_list(&terms.setting, list)?;
+    Ok(challenge(terms, &ticket, &vectors))
 }
 
 /// "The list holds s vectors of n least residues, the vectors one after
@@ -37,52 +43,74 @@ pub(crate) fn read_list(setting: &Setting, list: &[u32]) -> Result<Vec<Vec<i128>
 /// "For vector t, X: u = B·X mod p is computed; then for each row i, c = sum
 /// over j of (αq + r)·X(j) mod p and the row of A times u mod p. Unequal:
 /// caught, at the first t and, within it, the first row".
-pub(crate) fn challenge(setting: &Setting, ticket: &Ticket, vectors: &[Vec<i128>]) -> Answer {
+pub(crate) fn challenge(terms: &Terms, ticket: &Ticket, vectors: &[Vec<i128>]) -> Answer {
     vectors
         .iter()
         .enumerate()
-        .find_map(|(t, x)| {
-            let u = ticket.b.times(x);
-            ticket
-                .claims
-                .rows()
-                .zip(ticket.a.rows())
-                .position(|(claims, entries)| product(claims, x) != product(entries, &u))
-                .map(|i| caught(setting, t as u32, i as u32))
+        .find_map(|(t, x)| first_unequal(ticket, x).map(|i| caught(terms, t as u32, i as u32)))
+        .unwrap_or_else(|| accepted(terms))
+}
+
+/// The first row whose two sides are unequal for X. For a bias ticket, "the
+/// row's bias entries with X; their sum is added to the row of A times u"; for a
+/// plain one that sum is 0.
+fn first_unequal(ticket: &Ticket, x: &[i128]) -> Option<usize> {
+    let u = ticket.b.times(x);
+    ticket
+        .claims
+        .rows()
+        .zip(ticket.a.rows().zip(ticket.bias.rows()))
+        .position(|(claims, (entries, bias))| {
+            let sum = product(entries, &u) + product(bias, x);
+            product(claims, x) != least_residue(sum)
         })
-        .unwrap_or_else(|| accepted(setting))
 }
 
-/// The products of one vector with all its rows, mn + ℓn + ℓm. The sizes are
-/// within their limits here, so no count comes near the end of `u32`.
-fn products_of_a_vector(setting: &Setting) -> u32 {
-    let &Setting {
+/// The products of one row: n "with X" and m of "the row of A times u"; for a
+/// bias ticket "Each row of the challenge check makes n further products". The
+/// sizes are within their limits here, so no count comes near the end of `u32`.
+fn products_of_a_row(terms: &Terms) -> u32 {
+    let Setting { inner, columns, .. } = terms.setting;
+    match terms.bias_bound {
+        Some(_) => 2 * columns + inner,
+        None => columns + inner,
+    }
+}
+
+/// The products of one vector with all its rows, mn + ℓn + ℓm, or mn + 2ℓn + ℓm
+/// for a bias ticket.
+fn products_of_a_vector(terms: &Terms) -> u32 {
+    let Setting {
         rows, inner, columns, ..
-    } = setting;
-    inner * columns + rows * columns + rows * inner
+    } = terms.setting;
+    inner * columns + rows * products_of_a_row(terms)
 }
 
-/// "Accepted: 0, 0, 0, s(mn + ℓn + ℓm)."
-fn accepted(setting: &Setting) -> Answer {
+/// "Accepted: 0, 0, 0, s(mn + ℓn + ℓm)." A bias ticket has its own products of
+/// a vector.
+fn accepted(terms: &Terms) -> Answer {
     Answer {
         number: 0,
         place: 0,
         row: 0,
-        products: setting.vectors * products_of_a_vector(setting),
+        products: terms.setting.vectors * products_of_a_vector(terms),
     }
 }
 
 /// "Caught in vector t, row i: products are t(mn + ℓn + ℓm) + mn + (i + 1)(n +
-/// m)."
-fn caught(setting: &Setting, t: u32, i: u32) -> Answer {
-    let &Setting { inner, columns, .. } = setting;
+/// m)." A bias ticket has its own products of a vector and of a row.
+fn caught(terms: &Terms, t: u32, i: u32) -> Answer {
+    let Setting { inner, columns, .. } = terms.setting;
     Answer {
         number: 12,
         place: t,
         row: i,
-        products: t * products_of_a_vector(setting) + inner * columns + (i + 1) * (columns + inner),
+        products: t * products_of_a_vector(terms) + inner * columns + (i + 1) * products_of_a_row(terms),
     }
 }
 
 #[cfg(test)]
 mod tests;
+
+#[cfg(test)]
+mod bias_tests;

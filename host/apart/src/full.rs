@@ -2,32 +2,42 @@
 
 use crate::answer::Refusal;
 use crate::matrix::exact_sum;
+use crate::setting::Terms;
 use crate::ticket::{self, Part, Ticket};
-use crate::{Answer, Setting};
+use crate::{Answer, BiasSetting, Setting};
 
 /// The answer to a setting and the bytes of a ticket, by the order "1, 2, 3, 4;
 /// then record after record, each by 5, 6 and its own range; then 10, 11, 12
 /// (16 in the full check, which takes no list)".
 pub fn full_check(setting: &Setting, ticket: &[u8]) -> Answer {
-    decide(setting, ticket).unwrap_or_else(Answer::from)
+    decide(&Terms::from(setting), ticket).unwrap_or_else(Answer::from)
 }
 
-fn decide(setting: &Setting, ticket: &[u8]) -> Result<Answer, Refusal> {
-    setting.test()?;
-    let ticket = ticket::read(setting, ticket)?;
-    Ok(compare(setting, &ticket))
+/// The same for a bias ticket, with 17 "after 2" and 18 "where 7 would stand".
+pub fn bias_full_check(setting: &BiasSetting, ticket: &[u8]) -> Answer {
+    decide(&Terms::from(setting), ticket).unwrap_or_else(Answer::from)
 }
 
-/// "It computes each S and compares, row by row". "The claim there is true when
-/// αq + r = S".
-fn compare(setting: &Setting, ticket: &Ticket) -> Answer {
-    let first_untrue = Part::Quotients
-        .places(setting)
-        .find(|&(i, j)| ticket.claims.entry(i, j) != exact_sum(&ticket.a, &ticket.b, i, j));
+fn decide(terms: &Terms, ticket: &[u8]) -> Result<Answer, Refusal> {
+    terms.test()?;
+    let ticket = ticket::read(terms, ticket)?;
+    Ok(compare(terms, &ticket))
+}
+
+/// "It computes each S and compares, row by row".
+fn compare(terms: &Terms, ticket: &Ticket) -> Answer {
+    let first_untrue = Part::Quotients.places(terms).find(|&(i, j)| !is_true(ticket, i, j));
     match first_untrue {
-        Some((i, j)) => untrue(setting, i, j),
-        None => accepted(setting),
+        Some((i, j)) => untrue(&terms.setting, i, j),
+        None => accepted(&terms.setting),
     }
+}
+
+/// "The claim there is true when αq + r = S"; in a bias ticket "The claim is
+/// true when αq + r = S + c, with c the bias entry".
+fn is_true(ticket: &Ticket, i: u32, j: u32) -> bool {
+    let sum = exact_sum(&ticket.a, &ticket.b, i, j);
+    ticket.claims.entry(i, j) == sum + ticket.bias.entry(i, j)
 }
 
 /// "accepted is 0, 0, 0, ℓmn." The sizes are within their limits here, so no
@@ -55,3 +65,6 @@ fn untrue(setting: &Setting, i: u32, j: u32) -> Answer {
 
 #[cfg(test)]
 mod tests;
+
+#[cfg(test)]
+mod bias_tests;

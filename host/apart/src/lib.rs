@@ -2,7 +2,10 @@
 //! arithmetic modulo p here at the root, the setting, the reading of a ticket,
 //! the challenge check, the full check, the writer and the program in a module
 //! each, and, for those who test them, the making of tickets, true and false, and
-//! what the marked examples share.
+//! what the marked examples share. Of the paper of change requests the first is
+//! followed, "Bias from the autumn model": both checks and the writer have a call
+//! for bias tickets beside the plain one, and the rules that are the same are
+//! written once.
 //!
 //! Everything is exact integer arithmetic in `i128`. Every residue goes through
 //! one definition of the least residue. Every function takes every input,
@@ -24,11 +27,11 @@ mod ticket;
 mod writer;
 
 pub use answer::Answer;
-pub use check::challenge_check;
-pub use full::full_check;
-pub use make::true_ticket;
-pub use setting::Setting;
-pub use writer::write_ticket;
+pub use check::{bias_challenge_check, challenge_check};
+pub use full::{bias_full_check, full_check};
+pub use make::{true_bias_ticket, true_ticket};
+pub use setting::{BiasSetting, Setting};
+pub use writer::{write_bias_ticket, write_ticket};
 
 /// The modulus of the scope paper: "p = 2,147,483,647."
 pub const P: i128 = 2_147_483_647;

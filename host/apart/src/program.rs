@@ -4,6 +4,7 @@
 
 use crate::answer::Refusal;
 use crate::check::{challenge, read_list};
+use crate::setting::Terms;
 use crate::{ticket, Answer, Setting};
 
 /// The name of the file that holds the setting.
@@ -58,11 +59,13 @@ fn decide(files: &Files) -> Result<Answer, Refusal> {
     // "A missing file counts as empty".
     let [setting, ticket, list] = [files.setting, files.ticket, files.challenge].map(Option::unwrap_or_default);
     let setting = read_setting(setting)?;
-    setting.test()?;
-    let ticket = ticket::read(&setting, ticket)?;
+    // "the program keeps to plain tickets"
+    let terms = Terms::from(&setting);
+    terms.test()?;
+    let ticket = ticket::read(&terms, ticket)?;
     let list = read_challenge(&setting, list)?;
     let vectors = read_list(&setting, &list)?;
-    Ok(challenge(&setting, &ticket, &vectors))
+    Ok(challenge(&terms, &ticket, &vectors))
 }
 
 /// "setting.rec (16 bytes: ℓ, m, n, s one byte each, then α, T, v four bytes

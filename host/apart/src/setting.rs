@@ -1,4 +1,5 @@
-//! "The setting: public numbers, handed in by the buyer and not by the ticket".
+//! "The setting: public numbers, handed in by the buyer and not by the ticket",
+//! and, for bias tickets, the one with "a bias bound W".
 
 use std::ops::RangeInclusive;
 
@@ -55,39 +56,21 @@ impl Setting {
         ]
     }
 
-    /// The tests 1, 2 and 3, in this order, each with place 0.
-    pub(crate) fn test(&self) -> Result<(), Refusal> {
-        // "rows of A: ℓ, 1 to 32; columns of A: m, 1 to 64; columns of B: n,
-        // 1 to 32; challenge vectors: s, 1 to 8"
-        let sizes = [
+    /// "rows of A: ℓ, 1 to 32; columns of A: m, 1 to 64; columns of B: n, 1 to
+    /// 32; challenge vectors: s, 1 to 8"
+    fn sizes(&self) -> [(u32, RangeInclusive<u32>); 4] {
+        [
             (self.rows, 1..=32),
             (self.inner, 1..=64),
             (self.columns, 1..=32),
             (self.vectors, 1..=8),
-        ];
-        // "scale α, 2 to 65,536; entry bound T, 1 to 32,767; quotient width v,
-        // 1 to 30"
-        let others = [(self.scale, 2..=65_536), (self.bound, 1..=32_767), (self.width, 1..=30)];
-        let number = if any_outside(&sizes) {
-            1
-        } else if any_outside(&others) {
-            2
-        } else if !self.fits() {
-            3
-        } else {
-            return Ok(());
-        };
-        Err(Refusal { number, place: 0 })
+        ]
     }
 
-    /// "It fits when m·T² + α - 1 ≤ 2^(v-1)·α and 2^v·α < p." Asked only within
-    /// the limits.
-    fn fits(&self) -> bool {
-        let m = i128::from(self.inner);
-        let alpha = i128::from(self.scale);
-        let t = i128::from(self.bound);
-        let half = self.half_of_quotients();
-        m * t * t + alpha - 1 <= half * alpha && 2 * half * alpha < P
+    /// "scale α, 2 to 65,536; entry bound T, 1 to 32,767; quotient width v, 1 to
+    /// 30"
+    fn others(&self) -> [(u32, RangeInclusive<u32>); 3] {
+        [(self.scale, 2..=65_536), (self.bound, 1..=32_767), (self.width, 1..=30)]
     }
 
     /// 2^(v-1), by which quotients are shifted; v is from 1 to 30 here.
@@ -95,6 +78,110 @@ impl Setting {
         1 << (self.width - 1)
     }
 }
+
+/// The setting of a call for bias tickets: "The setting for this call has a bias
+/// bound W, 0 to 2^30". Any value may stand here too.
+#[derive(Clone, Copy, Debug, PartialEq, Eq)]
+pub struct BiasSetting {
+    pub setting: Setting,
+    /// Bias bound, W.
+    pub bias_bound: u32,
+}
+
+impl From<[u32; 8]> for BiasSetting {
+    /// The setting of these numbers: ℓ, m, n, s, α, T, v, W.
+    fn from([rows, inner, columns, vectors, scale, bound, width, bias_bound]: [u32; 8]) -> BiasSetting {
+        BiasSetting {
+            setting: Setting::from([rows, inner, columns, vectors, scale, bound, width]),
+            bias_bound,
+        }
+    }
+}
+
+impl BiasSetting {
+    /// The eight numbers, W last.
+    pub fn numbers(&self) -> [u32; 8] {
+        let [l, m, n, s, alpha, t, v] = self.setting.numbers();
+        [l, m, n, s, alpha, t, v, self.bias_bound]
+    }
+}
+
+/// What a call goes by: the seven numbers, and W if the call is one for bias
+/// tickets: "both checks and the writer get a call of its own for it". A plain
+/// call has no W.
+#[derive(Clone, Copy, Debug, PartialEq, Eq)]
+pub(crate) struct Terms {
+    pub(crate) setting: Setting,
+    pub(crate) bias_bound: Option<u32>,
+}
+
+impl From<&Setting> for Terms {
+    fn from(&setting: &Setting) -> Terms {
+        Terms {
+            setting,
+            bias_bound: None,
+        }
+    }
+}
+
+impl From<&BiasSetting> for Terms {
+    fn from(&BiasSetting { setting, bias_bound }: &BiasSetting) -> Terms {
+        Terms {
+            setting,
+            bias_bound: Some(bias_bound),
+        }
+    }
+}
+
+impl Terms {
+    /// The tests 1, 2 and 3, in this order, each with place 0; "W beyond 2^30 as
+    /// 17, after 2".
+    pub(crate) fn test(&self) -> Result<(), Refusal> {
+        let number = if any_outside(&self.setting.sizes()) {
+            1
+        } else if any_outside(&self.setting.others()) {
+            2
+        } else if self.greatest_bias() > GREATEST_BOUND {
+            17
+        } else if !self.fits() {
+            3
+        } else {
+            return Ok(());
+        };
+        // "a refusal's place that isn't stated is 0"
+        Err(Refusal { number, place: 0 })
+    }
+
+    /// "It fits when m·T² + α - 1 ≤ 2^(v-1)·α and 2^v·α < p." With a bias bound
+    /// W it "fits when m·T² + W + α - 1 ≤ 2^(v-1)·α and 2^v·α < p." Asked only
+    /// within the limits.
+    fn fits(&self) -> bool {
+        let m = i128::from(self.setting.inner);
+        let alpha = i128::from(self.setting.scale);
+        let t = i128::from(self.setting.bound);
+        let w = self.greatest_bias();
+        let half = self.setting.half_of_quotients();
+        m * t * t + w + alpha - 1 <= half * alpha && 2 * half * alpha < P
+    }
+
+    /// W, or 0 in a plain call, which adds nothing.
+    pub(crate) fn greatest_bias(&self) -> i128 {
+        i128::from(self.bias_bound.unwrap_or(0))
+    }
+
+    /// Rows and columns of the bias: "A bias ticket has ℓ by n records of kind
+    /// 5", a plain one none.
+    pub(crate) fn shape_of_bias(&self) -> (u32, u32) {
+        let Setting { rows, columns, .. } = self.setting;
+        match self.bias_bound {
+            Some(_) => (rows, columns),
+            None => (0, columns),
+        }
+    }
+}
+
+/// "W, 0 to 2^30".
+const GREATEST_BOUND: i128 = 1 << 30;
 
 fn any_outside(limits: &[(u32, RangeInclusive<u32>)]) -> bool {
     limits.iter().any(|(number, limit)| !limit.contains(number))

@@ -1,23 +1,42 @@
 //! "The writer takes the setting, A and B as signed 32-bit numbers and an
-//! output."
+//! output." The call for bias tickets takes the bias as well.
 
 use crate::answer::Refusal;
 use crate::make::Parts;
 use crate::matrix::{exact_sum, Matrix};
-use crate::ticket::{self, Part};
-use crate::{Answer, Setting};
+use crate::setting::Terms;
+use crate::ticket::{self, added, Part};
+use crate::{Answer, BiasSetting, Setting};
+
+/// The signed numbers that a ticket is written for, each matrix row by row. For
+/// a plain ticket the bias is empty.
+struct Operands<'a> {
+    a: &'a [i32],
+    b: &'a [i32],
+    bias: &'a [i32],
+}
 
 /// "It writes the one ticket whose claims are true, and answers 0, length, 0,
 /// ℓmn. Output past that length is unchanged."
-///
+pub fn write_ticket(setting: &Setting, a: &[i32], b: &[i32], output: &mut [u8]) -> Answer {
+    write(&Terms::from(setting), &Operands { a, b, bias: &[] }, output)
+}
+
+/// The same for a bias ticket, in which "The claim is true when αq + r = S + c,
+/// with c the bias entry".
+pub fn write_bias_ticket(setting: &BiasSetting, a: &[i32], b: &[i32], bias: &[i32], output: &mut [u8]) -> Answer {
+    write(&Terms::from(setting), &Operands { a, b, bias }, output)
+}
+
 /// The ticket is made only when every test is passed, and put into the output
 /// only when it is made: "Every refusal changes no lent byte."
-pub fn write_ticket(setting: &Setting, a: &[i32], b: &[i32], output: &mut [u8]) -> Answer {
-    match test(setting, a, b, output.len()) {
+fn write(terms: &Terms, operands: &Operands, output: &mut [u8]) -> Answer {
+    match test(terms, operands, output.len()) {
         Err(refusal) => Answer::from(refusal),
         Ok(()) => {
-            let ticket = ticket_of(setting, a, b);
+            let ticket = ticket_of(terms, operands);
             output[..ticket.len()].copy_from_slice(&ticket);
+            let setting = &terms.setting;
             // The sizes are within their limits, so neither number comes near
             // the end of `u32`.
             Answer {
@@ -31,57 +50,91 @@ pub fn write_ticket(setting: &Setting, a: &[i32], b: &[i32], output: &mut [u8]) 
 }
 
 /// "Writer: 1, 2, 3, 13, 14, 15; within 13 A precedes B, and the first index
-/// decides 14."
-fn test(setting: &Setting, a: &[i32], b: &[i32], output_length: usize) -> Result<(), Refusal> {
-    setting.test()?;
-    // "operand length wrong", at "0 for A, 1 for B"
-    if a.len() as u128 != Part::A.count(setting) {
-        return Err(Refusal { number: 13, place: 0 });
-    }
-    if b.len() as u128 != Part::B.count(setting) {
-        return Err(Refusal { number: 13, place: 1 });
-    }
-    // "operand beyond T", at the "index in A then B"
-    if let Some(place) = a.iter().chain(b).position(|&operand| is_beyond(setting, operand)) {
-        return Err(Refusal { number: 14, place });
-    }
+/// decides 14." For bias tickets 17 stands "after 2" and 18 is "following 14".
+fn test(terms: &Terms, operands: &Operands, output_length: usize) -> Result<(), Refusal> {
+    terms.test()?;
+    test_lengths(terms, operands)?;
+    test_bounds(terms, operands)?;
     // "output too short"
-    if (output_length as u128) < ticket::length(setting) {
+    if (output_length as u128) < ticket::length(terms) {
         return Err(Refusal { number: 15, place: 0 });
     }
     Ok(())
 }
 
-/// "An entry of A or B stands for a number from -T to T."
-fn is_beyond(setting: &Setting, operand: i32) -> bool {
+/// "operand length wrong", at "0 for A, 1 for B"; "a wrong bias length there is
+/// 13, place 2". The empty bias of a plain ticket has the right length.
+fn test_lengths(terms: &Terms, operands: &Operands) -> Result<(), Refusal> {
+    let &Operands { a, b, bias } = operands;
+    let lengths = [(Part::A, a), (Part::B, b), (Part::Bias, bias)];
+    match lengths
+        .iter()
+        .position(|(part, entries)| entries.len() as u128 != part.count(terms))
+    {
+        Some(place) => Err(Refusal { number: 13, place }),
+        None => Ok(()),
+    }
+}
+
+/// "operand beyond T", at the "index in A then B"; "a bias entry beyond W as 18",
+/// at "its index, counted on after A and B, following 14".
+fn test_bounds(terms: &Terms, operands: &Operands) -> Result<(), Refusal> {
+    let &Operands { a, b, bias } = operands;
+    let t = i128::from(terms.setting.bound);
+    if let Some(place) = a.iter().chain(b).position(|&operand| is_beyond(t, operand)) {
+        return Err(Refusal { number: 14, place });
+    }
+    let w = terms.greatest_bias();
+    if let Some(index) = bias.iter().position(|&entry| is_beyond(w, entry)) {
+        let place = a.len() + b.len() + index;
+        return Err(Refusal { number: 18, place });
+    }
+    Ok(())
+}
+
+/// Whether a number is not one from -`bound` to `bound`: "An entry of A or B
+/// stands for a number from -T to T."
+fn is_beyond(bound: i128, operand: i32) -> bool {
     let operand = i128::from(operand);
-    let bound = i128::from(setting.bound);
     operand < -bound || bound < operand
 }
 
 /// The bytes of the one ticket whose claims are true, from operands that have
 /// passed every test.
-fn ticket_of(setting: &Setting, a: &[i32], b: &[i32]) -> Vec<u8> {
-    let left = Matrix::new(setting.inner as usize, a.iter().copied().map(i128::from).collect());
-    let right = Matrix::new(setting.columns as usize, b.iter().copied().map(i128::from).collect());
-    let alpha = i128::from(setting.scale);
-    // A quotient is within 30 bits here, and a remainder below α.
-    let (quotients, remainders) = Part::Quotients
-        .places(setting)
-        .map(|(i, j)| claim(exact_sum(&left, &right, i, j), alpha))
-        .map(|(quotient, remainder)| (quotient as i64, remainder as i64))
-        .unzip();
+fn ticket_of(terms: &Terms, operands: &Operands) -> Vec<u8> {
+    let (quotients, remainders) = claims(terms, operands).into_iter().unzip();
     Parts {
-        a: a.iter().copied().map(i64::from).collect(),
-        b: b.iter().copied().map(i64::from).collect(),
+        a: widened(operands.a),
+        b: widened(operands.b),
         quotients,
         remainders,
     }
-    .ticket(setting)
+    .encode(terms, &widened::<i64>(operands.bias))
+}
+
+/// The true claims of the operands, row by row. A quotient is within 30 bits
+/// here, and a remainder below α.
+fn claims(terms: &Terms, operands: &Operands) -> Vec<(i64, i64)> {
+    let setting = &terms.setting;
+    let left = Matrix::new(setting.inner as usize, widened(operands.a));
+    let right = Matrix::new(setting.columns as usize, widened(operands.b));
+    let bias = added(terms, widened(operands.bias));
+    let alpha = i128::from(setting.scale);
+    Part::Quotients
+        .places(terms)
+        .map(|(i, j)| claim(exact_sum(&left, &right, i, j) + bias.entry(i, j), alpha))
+        .map(|(quotient, remainder)| (quotient as i64, remainder as i64))
+        .collect()
+}
+
+/// The same numbers in a wider type.
+fn widened<T: From<i32>>(entries: &[i32]) -> Vec<T> {
+    entries.iter().copied().map(T::from).collect()
 }
 
 /// The quotient and the remainder of a true claim: "The claim there is true when
-/// αq + r = S; with r in range this makes q the floor of S over α."
+/// αq + r = S; with r in range this makes q the floor of S over α." With a bias
+/// the sum is S + c.
 fn claim(sum: i128, alpha: i128) -> (i128, i128) {
     let quotient = floor(sum, alpha);
     (quotient, sum - alpha * quotient)
@@ -102,3 +155,6 @@ fn floor(sum: i128, alpha: i128) -> i128 {
 
 #[cfg(test)]
 mod tests;
+
+#[cfg(test)]
+mod bias_tests;

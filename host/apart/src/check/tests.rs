@@ -58,7 +58,7 @@ fn example_b() {
 
 #[test]
 fn example_c() {
-    let Ok(ticket) = ticket::read(&K, &true_ticket(&K, &A, &B)) else {
+    let Ok(ticket) = ticket::read(&Terms::from(&K), &true_ticket(&K, &A, &B)) else {
         panic!("the ticket is not read");
     };
     let x = [1, 2];
