@@ -7,9 +7,10 @@
 --   WellFormed G x         it is
 --   productB G t x τ k     number k of the product u of B and vector τ, modulo p
 --   claimSide G t x τ i    row i of the claims times vector τ, modulo p
---   operandSide G t x τ i  row i of A times u, modulo p
+--   operandSide G t x τ i  row i of A times u and row i of the bias times vector τ, modulo p
 --   balanced G t x τ i     the two sides are equal
 --   firstRow G t x τ       the first row that is not balanced for vector τ, the number of rows where there is none
+--   rowProducts G          how many products a row takes: those with its bias, its claims and its entries of A
 --   vectorProducts G       how many products a whole vector takes
 --   challengeProducts G    and how many all of them take
 --   caughtProducts G τ i   how many are made up to row i of vector τ, with that row
@@ -24,12 +25,12 @@ use mathlib.Core.Bool.{Bool}
 use mathlib.Core.List.{List}
 use lib.Dec.{ltb, eqb}
 use lib.ListN.{length, getD}
-use lib.IntN.{pos, _*ℤ_}
+use lib.IntN.{pos, _+ℤ_, _*ℤ_}
 use Rattle.residue.specs.Rules.{modulus, leastResidue}
 use Rattle.algebra.specs.Rules.{sumℤ}
 use Rattle.ticket.specs.declared.setting.Setting.{Setting}
 use Rattle.ticket.specs.declared.Answer.{Answer}
-use Rattle.ticket.specs.Rules.{first, unless, answer, refusal, scan, firstRefusal, after, reading, entryA, entryB, claim}
+use Rattle.ticket.specs.Rules.{first, unless, answer, refusal, scan, firstRefusal, after, reading, biasColumns, entryA, entryB, entryBias, claim}
 
 -- the list
 
@@ -55,7 +56,10 @@ unfoldable pub claimSide : Setting → List ℕ → List ℕ → ℕ → ℕ →
 claimSide G t x τ i = leastResidue modulus (sumℤ (G .columns) (λ j. claim G t i j *ℤ pos (challengeAt G x τ j)))
 
 unfoldable pub operandSide : Setting → List ℕ → List ℕ → ℕ → ℕ → ℕ
-operandSide G t x τ i = leastResidue modulus (sumℤ (G .inner) (λ k. entryA G t i k *ℤ pos (productB G t x τ k)))
+operandSide G t x τ i =
+    leastResidue modulus
+    (sumℤ (G .inner) (λ k. entryA G t i k *ℤ pos (productB G t x τ k))
+    +ℤ sumℤ (G .columns) (λ j. entryBias G t i j *ℤ pos (challengeAt G x τ j)))
 
 unfoldable pub balanced : Setting → List ℕ → List ℕ → ℕ → ℕ → Bool
 balanced G t x τ i = eqb (claimSide G t x τ i) (operandSide G t x τ i)
@@ -65,14 +69,17 @@ balanced G t x τ i = eqb (claimSide G t x τ i) (operandSide G t x τ i)
 unfoldable pub firstRow : Setting → List ℕ → List ℕ → ℕ → ℕ
 firstRow G t x τ = first (G .rows) (balanced G t x τ)
 
+abbrev pub rowProducts : Setting → ℕ
+rowProducts G = biasColumns G + G .columns + G .inner
+
 abbrev pub vectorProducts : Setting → ℕ
-vectorProducts G = G .inner * G .columns + G .rows * G .columns + G .rows * G .inner
+vectorProducts G = G .inner * G .columns + G .rows * rowProducts G
 
 abbrev pub challengeProducts : Setting → ℕ
 challengeProducts G = G .vectors * vectorProducts G
 
 abbrev pub caughtProducts : Setting → ℕ → ℕ → ℕ
-caughtProducts G τ i = τ * vectorProducts G + G .inner * G .columns + (i + 1) * (G .columns + G .inner)
+caughtProducts G τ i = τ * vectorProducts G + G .inner * G .columns + (i + 1) * rowProducts G
 
 abbrev pub accepted : Setting → Answer
 accepted G = answer 0 0 0 (challengeProducts G)

@@ -27,7 +27,7 @@ pub(crate) fn product(matrix: &[u8], vector: &[u64], u: &mut [u64])
 }
 
 // The sum of the products of the values of the records from start on with the numbers of a vector, modulo p.
-fn dot_records(records: &[u8], start: usize, vector: &[u64]) -> Residue
+pub(crate) fn dot_records(records: &[u8], start: usize, vector: &[u64]) -> Residue
     requires { ⌜ RecordsReady (now records) start (now vector) ⌝ }
     ensures { λ r. ⌜ r .0 ≡ dotOf (now (records .entry)) start (now (vector .entry)) ⌝ }
 {

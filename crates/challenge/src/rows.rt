@@ -9,6 +9,7 @@ ghost use Rattle.challenge.specs.Laws.Rows.{rowAnswer, rowSteps, VectorR
 ghost use Rattle.challenge.specs.Laws.Sides.{DecodedTo, RoomFor};
 ghost use Rattle.challenge.specs.Laws.Vectors.{vectorSteps, DecodeReady, ListReady, VectorReady};
 use crate::products::dot;
+use crate::products::dot_records;
 use crate::products::offset;
 use crate::products::product;
 use crate::products::wide_dot;
@@ -125,25 +126,30 @@ fn check_vector(
 {
     widen(line(list, x.len(), t), x);
     product(ticket::part(setting, ticket, PartNumber::B), x, u);
+    let bias = ticket::part(setting, ticket, PartNumber::BIAS);
     let made = products + setting.inner * setting.columns;
-    check_rows(setting, a, w, x, u, t, made)
+    check_rows(setting, a, w, bias, x, u, t, made)
 }
 
-// All rows for one vector, x, and its product u with B.
+// All rows for one vector, x, and its product u with B. A row of the bias, where there is one, is read as records; its product with
+// the vector is added to that of the row of A.
 fn check_rows(
     setting: Setting,
     a: &[u32],
     w: &[u32],
+    bias: &[u8],
     x: &[u64],
     u: &[u64],
     t: u32,
     products: u32,
 ) -> Answer
-    requires { ⌜ VectorRowsReady setting (now a) (now w) (now x) (now u) products ⌝ }
-    ensures { λ r. ⌜ r ≡ steps-answer (rowSteps setting (now (a .entry)) (now (w .entry)) (now (x .entry)) (now (u .entry)) t products) ⌝ }
+    requires { ⌜ VectorRowsReady setting (now a) (now w) (now bias) (now x) (now u) products ⌝ }
+    ensures { λ r. ⌜ r ≡ steps-answer (rowSteps setting (now (a .entry)) (now (w .entry)) (now (bias .entry)) (now (x .entry)) (now (u .entry)) t products) ⌝ }
 {
     let left = offset(x, setting.lift());
     let right = offset(u, setting.bound as u64);
+    let width = setting.bias_columns() as usize;
+    let z = &x[..width];
     let mut answer = Answer {
         number: 0,
         place: 0,
@@ -152,16 +158,17 @@ fn check_rows(
     };
     let mut row: u32 = 0;
     while row < setting.rows {
+        let added = dot_records(bias, (row as usize) * width, z);
         answer = check_row(
             line(a, u.len(), row),
             line(w, x.len(), row),
             x,
             u,
             left,
-            right,
+            right + (added.0 as u64),
             t,
             row,
-            answer.products,
+            answer.products + (width as u32),
         );
         if answer.number != 0 {
             return answer;
@@ -172,7 +179,7 @@ fn check_rows(
 }
 
 // One row, of A in a and of the claims in w, against vector number t, x, and its product u with B: caught, where the two sides differ.
-// The shift of the claims is taken off by left, that of the entries by right. The products made so far are handed in, and go out in
+// The shift of the claims is taken off by left, that of the entries by right, in which the product of the bias is too. The products made so far are handed in, and go out in
 // the answer with those of this row.
 fn check_row(
     a: &[u32],

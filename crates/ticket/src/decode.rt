@@ -5,7 +5,7 @@ ghost use mathlib.Core.Path.{_≡_};
 ghost use Prim.Native.Nat.{_+_, _*_, _%_, _^_};
 ghost use Rattle.residue.specs.Rules.{modulus};
 ghost use Rattle.residue.specs.Laws.Modulo.{carriedSum};
-ghost use Rattle.ticket.specs.Laws.Decodes.{narrowed, ShiftedList, NarrowList, LiftedList};
+ghost use Rattle.ticket.specs.Laws.Decodes.{narrowed, entryWord, ShiftedList, NarrowList, LiftedList, AddedList};
 use crate::parts::RECORD;
 use crate::parts::fewer;
 use crate::parts::value_at;
@@ -62,6 +62,21 @@ pub fn lifted_claims(
     }
 }
 
+// The entries that the values of the records from start on stand for, added to the numbers of a list modulo 2^32.
+pub fn add_entries(records: &[u8], start: usize, list: &mut [u32])
+    ensures { λ r. ⌜ AddedList (now (records .entry)) start (now (list .entry)) (now (list .exit)) ⌝ }
+{
+    let held = records.len() / RECORD;
+    let from = fewer(start, held);
+    let count = fewer(held - from, list.len());
+    let mut k = 0;
+    while k < count {
+        let word = entry_word(value_at(records, from + k));
+        list[k] = std::num::wrapping_add_u32(list[k], word);
+        k += 1;
+    }
+}
+
 // A value with a shift added modulo p, where the value is a least residue and the result in the lower half: then a value in the upper
 // half comes to p or more with the shift, and to p + 1 or more with 1 carried. There is no branch, and no division where p + 1 is a
 // power of two.
@@ -71,6 +86,15 @@ fn shifted(value: Residue, shift: u32) -> Residue
     let wrap = Residue::modulus() + 1;
     let sum = std::num::wrapping_add_u32(value.0, shift);
     Residue(std::num::wrapping_add_u32(sum, value.0 / (wrap / 2)) % wrap)
+}
+
+// The entry that a value stands for, modulo 2^32.
+fn entry_word(value: Residue) -> u32
+    ensures { λ r. ⌜ r ≡ entryWord (value .0) ⌝ }
+{
+    let largest = Residue::modulus() / 2;
+    let back = (WORD - (largest as u64)) as u32;
+    std::num::wrapping_add_u32(shifted(value, largest).0, back)
 }
 
 // The entry of 16 bits whose value, shifted by 2^15, this is.

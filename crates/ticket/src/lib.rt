@@ -6,6 +6,7 @@ mod published;
 mod records;
 mod setting;
 
+pub use decode::add_entries;
 pub use decode::lifted_claims;
 pub use decode::narrow_entries;
 pub use decode::shifted_entries;

@@ -4,6 +4,8 @@
 --   sumℤ-more            one more value is added at the end
 --   sumℤ-split           m values, then the n after them
 --   sumℤ-cong            equal values have equal sums
+--   sumℤ-zero            values that are all 0 come to 0
+--   sumℤ-total           a row of totals times a vector is the one row times it and the other
 --   sumℤ-difference      a row of differences times a vector is the one row times it less the other
 --   size-sum             a sum is at most as large as its two parts together
 --   size-difference      and so is a difference
@@ -44,6 +46,35 @@ pub sumℤ-cong : (n : ℕ) (f g : ℕ → ℤ) → ((i : ℕ) → i < n → f i
 unfolding sumℤ
 sumℤ-cong zero f g h = refl
 sumℤ-cong (suc n) f g h = cc (sumℤ-cong n f g (λ i l. h i (omega arith)), h n (omega arith))
+
+pub sumℤ-zero : (n : ℕ) (f : ℕ → ℤ) → ((i : ℕ) → i < n → f i ≡ pos 0) → sumℤ n f ≡ pos 0
+unfolding sumℤ
+sumℤ-zero zero f h = refl
+sumℤ-zero (suc n) f h = rw (sumℤ-zero n f (λ i l. h i (omega arith)), h n (omega arith))
+
+pub sumℤ-total : (n : ℕ) (f g : ℕ → ℤ) (x : ℕ → ℕ)
+    → sumℤ n (λ i. (f i +ℤ g i) *ℤ pos (x i)) ≡ sumℤ n (λ i. f i *ℤ pos (x i)) +ℤ sumℤ n (λ i. g i *ℤ pos (x i))
+unfolding sumℤ
+sumℤ-total zero f g x = refl
+sumℤ-total (suc n) f g x =
+    ap (λ z. z +ℤ (f n +ℤ g n) *ℤ pos (x n)) (sumℤ-total n f g x)
+    ∙ step (sumℤ n (λ i. f i *ℤ pos (x i))) (sumℤ n (λ i. g i *ℤ pos (x i))) (f n) (g n) (x n)
+  where
+    step : (s t a b : ℤ) (k : ℕ) → s +ℤ t +ℤ (a +ℤ b) *ℤ pos k ≡ (s +ℤ a *ℤ pos k) +ℤ (t +ℤ b *ℤ pos k)
+    step s t a b k =
+        equal-of-parts (s +ℤ t +ℤ (a +ℤ b) *ℤ pos k) ((s +ℤ a *ℤ pos k) +ℤ (t +ℤ b *ℤ pos k))
+        (omega (
+          arith,
+          parts-sum (s +ℤ t) ((a +ℤ b) *ℤ pos k),
+          parts-sum s t,
+          parts-product (a +ℤ b) (pos k),
+          ap (λ m. m * k) (parts-sum a b),
+          parts-sum (s +ℤ a *ℤ pos k) (t +ℤ b *ℤ pos k),
+          parts-sum s (a *ℤ pos k),
+          parts-sum t (b *ℤ pos k),
+          parts-product a (pos k),
+          parts-product b (pos k),
+        ))
 
 pub sumℤ-difference : (n : ℕ) (f g : ℕ → ℤ) (x : ℕ → ℕ)
     → sumℤ n (λ i. (f i -ℤ g i) *ℤ pos (x i)) ≡ sumℤ n (λ i. f i *ℤ pos (x i)) -ℤ sumℤ n (λ i. g i *ℤ pos (x i))

@@ -5,19 +5,20 @@
 --   matrixProduct-cong   equal rows and columns have equal products
 --   size-matrixProduct   a row of integers of size up to a times a column of size up to b comes to m * (a * b) at most
 --   product-through      row i of A times B x, reduced between, is row i of the product A B times x
+--   sum-through          with row i of C times x added, it is row i of A B + C times x
 --   row-balances         two rows have the same product with x exactly when the row of their differences has 0
-use Prim.Native.Nat.{ℕ, _*_, _%_, _≤_, _<_}
+use Prim.Native.Nat.{ℕ, _+_, _*_, _%_, _≤_, _<_}
 use native.Mathlib.Nat.{mul-comm, mul-le-mul}
 use native.Mathlib.Omega.{arith}
 use mathlib.Core.Path.{_≡_, refl, sym, ap, _∙_}
 use mathlib.Core.Logic.{_↔_}
-use lib.IntN.{ℤ, pos, natAbs, _-ℤ_, _*ℤ_}
+use lib.IntN.{ℤ, pos, natAbs, _+ℤ_, _-ℤ_, _*ℤ_}
 use Rattle.residue.specs.Rules.{leastResidue, sum}
 use Rattle.residue.specs.Laws.Modulo.{mod-mul-left, mod-mul}
-use Rattle.residue.specs.Laws.Residues.{residue-zero, residue-same}
+use Rattle.residue.specs.Laws.Residues.{residue-sum, residue-zero, residue-same}
 use Rattle.residue.specs.Laws.Sums.{sum-cong, sum-scale, sum-swap, sum-mod-cong}
 use Rattle.algebra.specs.Rules.{sumℤ, matrixProduct}
-use Rattle.algebra.specs.Laws.IntegerSums.{sumℤ-cong, sumℤ-bound, sumℤ-difference, size-product, residue-products, residue-dot}
+use Rattle.algebra.specs.Laws.IntegerSums.{sumℤ-cong, sumℤ-bound, sumℤ-total, sumℤ-difference, size-product, residue-products, residue-dot}
 
 pub matrixProduct-is : (m : ℕ) (A B : ℕ → ℕ → ℤ) (i j : ℕ) → matrixProduct m A B i j ≡ sumℤ m (λ k. A i k *ℤ B k j)
 unfolding matrixProduct
@@ -65,6 +66,17 @@ module _ (p : ℕ) (above : 0 < p) where
           ∙ ap (λ y. y % p) (mul-comm (sum m (λ k. a k * b k j) % p) (x j))
           ∙ scale-mod p m (x j) (λ k. a k * b k j)
           ∙ ap (λ y. y % p) (sum-cong m _ _ (λ k l. omega arith))
+
+  pub sum-through : (m n : ℕ) (A B C : ℕ → ℕ → ℤ) (i : ℕ) (x : ℕ → ℕ)
+      → leastResidue p
+      (sumℤ m (λ k. A i k *ℤ pos (leastResidue p (sumℤ n (λ j. B k j *ℤ pos (x j))))) +ℤ sumℤ n (λ j. C i j *ℤ pos (x j)))
+      ≡ leastResidue p (sumℤ n (λ j. (matrixProduct m A B i j +ℤ C i j) *ℤ pos (x j)))
+  sum-through m n A B C i x =
+      let bias = sumℤ n (λ j. C i j *ℤ pos (x j)) in
+      residue-sum p above _ bias
+      ∙ ap (λ r. (r + leastResidue p bias) % p) (product-through m n A B i x)
+      ∙ sym (residue-sum p above _ bias)
+      ∙ ap (leastResidue p) (sym (sumℤ-total n (matrixProduct m A B i) (C i) x))
 
   pub row-balances : (n : ℕ) (c d : ℕ → ℤ) (x : ℕ → ℕ)
       → (leastResidue p (sumℤ n (λ j. c j *ℤ pos (x j))) ≡ leastResidue p (sumℤ n (λ j. d j *ℤ pos (x j))))

@@ -4,6 +4,7 @@
 --   dotOf b a x       their sum over all numbers of x, modulo p
 --   offsetOf s x      what takes a shift s of the other factors off a sum of products with x
 --   dotWith o l x     o plus the sum of the products of the numbers of l and x, modulo p
+--   dot-more          with a number added to o, it is that added modulo p
 --   side-made         with the shift taken off, that is the sum of the integers that l holds shifted, times x, modulo p
 --   ResidueVector x   x has no more numbers than a row of a matrix, and they are least residues
 --   offset-small      an offset is at most 2^62
@@ -17,13 +18,14 @@
 --   RecordsReady b a x   the records of b from a on can be multiplied with x
 --   DotReady l x      so can the numbers of l
 --   NarrowFactors l x o  these are below 2^16, and o is small
+--   dot-small            the sum of products of records is below p
 --   narrow-fits, narrow-more   then the sum of o and the products fits 64 bits, and one product more is added
 --   narrow-product, narrow-total   the same of the product and of the sum, as the code asks for it
 --   ProductReady b m x   b has m rows of records for x
 --   records-ready     then each row can be multiplied
 --   rowsTimes b x k   row k of b times x
 use Prim.Native.Nat.{ℕ, _+_, _-_, _*_, _%_, _≤_, _<_, _^_}
-use native.Mathlib.Nat.{mod-lt, mod-eq-of-lt, mul-le-mul}
+use native.Mathlib.Nat.{mod-lt, mod-eq-of-lt, mod-add-mod, mul-le-mul}
 use native.Mathlib.Omega.{arith}
 use mathlib.Core.Path.{_≡_, sym, ap, _∙_}
 use mathlib.Core.List.{List}
@@ -51,6 +53,16 @@ offsetOf shift x = taken-off modulus shift (length x) (λ j. getD x j 0)
 
 unfoldable pub dotWith : ℕ → List ℕ → List ℕ → ℕ
 dotWith offset list x = (offset + sum (length x) (λ j. getD list j 0 * getD x j 0)) % modulus
+
+pub dot-small : (bytes : List ℕ) (start : ℕ) (x : List ℕ) → dotOf bytes start x < modulus
+unfolding dotOf
+dot-small bytes start x = mod-lt _ modulus-positive
+
+pub dot-more : (offset more : ℕ) (list x : List ℕ) → dotWith (offset + more) list x ≡ (dotWith offset list x + more) % modulus
+unfolding dotWith
+dot-more offset more list x =
+    let s = sum (length x) (λ j. getD list j 0 * getD x j 0) in
+    ap (λ n. n % modulus) (omega arith) ∙ sym (mod-add-mod (offset + s) modulus more)
 
 pub side-made : (s n : ℕ) (z : ℕ → ℤ) (x : ℕ → ℕ) (list v : List ℕ) → s ≤ modulus → length v ≡ n
     → ((j : ℕ) → j < n → getD v j 0 ≡ x j) → ((j : ℕ) → j < n → pos (getD list j 0) ≡ z j +ℤ pos s)
@@ -143,7 +155,7 @@ pub record DotReady (list x : List ℕ) : Type 0 where
 
 pub record NarrowFactors (list x : List ℕ) (offset : ℕ) : Type 0 where
   pub small : (j : ℕ) → j < length x → getD list j 0 < 2 ^ 16
-  pub offset-most : offset ≤ 2 ^ 62
+  pub offset-most : offset ≤ 2 ^ 62 + 2 ^ 31
 
 module _ {list x : List ℕ} {offset : ℕ} (ready : DotReady list x) (narrow : NarrowFactors list x offset)
     {j s : ℕ} (l : j < length x) (reached : Reached offset (λ i. getD list i 0 * getD x i 0) j s) where

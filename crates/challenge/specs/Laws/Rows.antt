@@ -1,14 +1,19 @@
 -- All rows for one vector, as the code works through them: x is the vector, u its product with B, a and w are the lists that A and the
--- claims are decoded to.
+-- claims are decoded to, d the bytes of the bias.
 --
 --   sidesEqual m n a w x u    w times x, with the offset m, is a times u, with the offset n
 --   rowAnswer m n a w x u τ i q   the answer of row i for vector number τ after q products, by these two sides
 --   row-caught, row-balanced  an answer by the comparison of two numbers, as the code makes it
---   rowAgrees G a w x u i     row i of w times x, with the lift taken off, is row i of a times u, with the bound taken off
---   rowSteps G a w x u τ q    the rows one after the other, for vector number τ after q products
---   VectorRowsReady G a w x u q   the rows can be worked through after q products
+--   biasVector G x            what the bias is multiplied with: the vector, nothing where there is no bias
+--   rowAgrees G a w d x u i   row i of w times x, with the lift taken off, is row i of a times u, with the bound taken off, and row i of
+--                             the bias times x
+--   rowCost G x u             how many products a row takes
+--   rowSteps G a w d x u τ q  the rows one after the other, for vector number τ after q products
+--   VectorRowsReady G a w d x u q   the rows can be worked through after q products
 --   SidesReady a w x u o q    so can one row
 --   line-inside               a row is within its list
+--   bias-within, bias-ready   the bias is no wider than the vector, and each row of it can be multiplied
+--   products-fit, offset-fits   the products up to a row, and what is added to a row of A times u, are not large
 --   row-sides                 each row is ready, those before it having passed
 --   row-step                  and its answer is that of its step
 use Prim.Native.Nat.{ℕ, _+_, _*_, _≤_, _<_, _^_}
@@ -18,16 +23,18 @@ use mathlib.Core.Bool.{Bool}
 use mathlib.Core.List.{List}
 use borrow.Author.Tests.{eq-eqb, ne-eqb}
 use lib.Dec.{eqb}
-use lib.ListN.{length, getD}
+use lib.ListN.{length, getD, take}
+use lib.Seq.{getD-take, length-take-le}
 use Rattle.residue.specs.Rules.{modulus}
+use Rattle.residue.specs.Laws.Modulus.{modulus-below}
 use Rattle.algebra.specs.Laws.Fills.{lineAt, part-of, part-long}
 use Rattle.algebra.specs.Laws.Positions.{row-inside}
 use Rattle.ticket.specs.declared.setting.Setting.{Setting}
 use Rattle.ticket.specs.declared.Answer.{Answer}
-use Rattle.ticket.specs.Rules.{unless, answer, lift}
+use Rattle.ticket.specs.Rules.{unless, answer, lift, recordBytes, biasColumns}
 use Rattle.ticket.specs.Laws.Limits.{clamped}
 use Rattle.ticket.specs.Laws.Runs.{Steps, step-answer, RunTo}
-use Rattle.challenge.specs.Laws.Products.{dotWith, offsetOf, offset-small, ResidueVector, DotReady, NarrowFactors}
+use Rattle.challenge.specs.Laws.Products.{dotOf, dot-small, dotWith, offsetOf, offset-small, ResidueVector, RecordsReady, DotReady, NarrowFactors}
 
 abbrev pub sidesEqual : ℕ → ℕ → List ℕ → List ℕ → List ℕ → List ℕ → Bool
 sidesEqual left right a w x u = eqb (dotWith left w x) (dotWith right a u)
@@ -44,30 +51,39 @@ module _ {c d m n : ℕ} (c-is : c ≡ m) (d-is : d ≡ n) (caught passed : Answ
   pub row-balanced : c ≡ d → passed ≡ unless (eqb m n) caught passed
   row-balanced e = sym (rw (eq-eqb m n (sym c-is ∙ e ∙ d-is)))
 
-abbrev pub rowAgrees : Setting → List ℕ → List ℕ → List ℕ → List ℕ → ℕ → Bool
-rowAgrees G a w x u i =
-    sidesEqual (offsetOf (lift (clamped G)) x) (offsetOf (G .bound) u) (lineAt a (length u) i) (lineAt w (length x) i) x u
+abbrev pub biasVector : Setting → List ℕ → List ℕ
+biasVector G x = take (biasColumns G) x
 
-abbrev pub rowSteps : Setting → List ℕ → List ℕ → List ℕ → List ℕ → ℕ → ℕ → Steps
-rowSteps G a w x u τ products =
+abbrev pub rowAgrees : Setting → List ℕ → List ℕ → List ℕ → List ℕ → List ℕ → ℕ → Bool
+rowAgrees G a w d x u i =
+    sidesEqual (offsetOf (lift (clamped G)) x) (offsetOf (G .bound) u + dotOf d (i * biasColumns G) (biasVector G x))
+    (lineAt a (length u) i) (lineAt w (length x) i) x u
+
+abbrev pub rowCost : Setting → List ℕ → List ℕ → ℕ
+rowCost G x u = biasColumns G + length x + length u
+
+abbrev pub rowSteps : Setting → List ℕ → List ℕ → List ℕ → List ℕ → List ℕ → ℕ → ℕ → Steps
+rowSteps G a w d x u τ products =
     record {
       count = G .rows;
-      holds = rowAgrees G a w x u;
-      failed = λ i. answer 12 τ i (products + (i + 1) * (length x + length u));
-      so-far = λ i. answer 0 0 0 (products + i * (length x + length u));
+      holds = rowAgrees G a w d x u;
+      failed = λ i. answer 12 τ i (products + (i + 1) * rowCost G x u);
+      so-far = λ i. answer 0 0 0 (products + i * rowCost G x u);
       other = λ i e. omega arith;
       passed = λ i. refl;
     }
 
-pub record VectorRowsReady (G : Setting) (a w x u : List ℕ) (products : ℕ) : Type 0 where
+pub record VectorRowsReady (G : Setting) (a w d x u : List ℕ) (products : ℕ) : Type 0 where
   pub lift-below : lift (clamped G) ≤ modulus
   pub bound-below : G .bound ≤ modulus
   pub vector-x : ResidueVector x
   pub vector-u : ResidueVector u
   pub long-A : G .rows * length u ≤ length a
   pub long-claims : G .rows * length x ≤ length w
+  pub bias-fits : biasColumns G ≤ length x
+  pub long-bias : recordBytes * (G .rows * biasColumns G) ≤ length d
   pub small : (k : ℕ) → k < G .rows * length u → getD a k 0 < 2 ^ 16
-  pub few : products + G .rows * (length x + length u) < 2 ^ 32
+  pub few : products + G .rows * rowCost G x u < 2 ^ 32
 
 pub record SidesReady (a w x u : List ℕ) (right products : ℕ) : Type 0 where
   pub operands : DotReady a u
@@ -84,17 +100,42 @@ line-ready : {rows i : ℕ} (list : List ℕ) {x : List ℕ} → ResidueVector x
 line-ready {i = i} list {x} vector l long =
     record { vector = vector; long = omega (arith, part-long list (i * length x) (length x) (line-inside (length x) l long)) }
 
-module _ {G : Setting} {a w x u : List ℕ} {products : ℕ} (ready : VectorRowsReady G a w x u products)
-    {τ i : ℕ} {b : Answer} (run : RunTo (rowSteps G a w x u τ products) i b) (l : i < G .rows)
-    {right : ℕ} (right-is : right ≡ offsetOf (G .bound) u)
+module _ {G : Setting} {a w d x u : List ℕ} {products : ℕ} (ready : VectorRowsReady G a w d x u products)
+    {n : ℕ} (n-is : n ≡ biasColumns G) where
+  pub bias-within : n ≤ length x
+  bias-within = omega (arith, ready .bias-fits)
+
+  bias-long : length (take n x) ≡ n
+  bias-long = length-take-le n x bias-within
+
+  pub bias-ready : {i : ℕ} → i < G .rows → RecordsReady d (i * n) (take n x)
+  bias-ready l =
+      record {
+        vector =
+            record {
+              short = omega (arith, bias-long, bias-within, ready .vector-x .short);
+              below = λ j m. rw (getD-take n x j 0 (omega (arith, bias-long))) (ready .vector-x .below j (omega (arith, bias-long, bias-within)));
+            };
+        long = omega (arith, bias-long, row-inside n l, ready .long-bias, ap (λ k. G .rows * k) n-is);
+      }
+
+module _ {G : Setting} {a w d x u : List ℕ} {products : ℕ} (ready : VectorRowsReady G a w d x u products)
+    {τ i : ℕ} {b : Answer} (run : RunTo (rowSteps G a w d x u τ products) i b) (l : i < G .rows)
+    {right n added : ℕ} (right-is : right ≡ offsetOf (G .bound) u) (n-is : n ≡ biasColumns G) (added-is : added ≡ dotOf d (i * n) (take n x))
     {r s : List ℕ} (r-is : r ≡ lineAt a (length u) i) (s-is : s ≡ lineAt w (length x) i) where
   -- the products of one row more
-  counted : b .products + length x + length u ≡ products + (i + 1) * (length x + length u)
+  counted : b .products + n + length x + length u ≡ products + (i + 1) * rowCost G x u
   counted = omega (arith, ap (λ c. c .products) (run .answer-is))
 
-  pub row-sides : SidesReady r s x u right (b .products)
+  pub products-fit : b .products + n < 2 ^ 32
+  products-fit = omega (arith, counted, row-inside (rowCost G x u) l, ready .few)
+
+  pub offset-fits : right + added < 2 ^ 64
+  offset-fits = rw (right-is, added-is) (omega (arith, offset-small (G .bound) (length u) (λ j. getD u j 0), dot-small d (i * n) (take n x), modulus-below))
+
+  pub row-sides : SidesReady r s x u (right + added) (b .products + n)
   row-sides =
-      rw (r-is, s-is, right-is)
+      rw (r-is, s-is, right-is, added-is)
       (record {
         operands = line-ready a (ready .vector-u) l (ready .long-A);
         narrow =
@@ -102,12 +143,18 @@ module _ {G : Setting} {a w x u : List ℕ} {products : ℕ} (ready : VectorRows
               small = λ k m.
                   rw (part-of a (i * length u) (length u) k 0 m)
                   (ready .small (i * length u + k) (omega (arith, row-inside (length u) l)));
-              offset-most = offset-small (G .bound) (length u) (λ j. getD u j 0);
+              offset-most =
+                  omega (
+                    arith,
+                    offset-small (G .bound) (length u) (λ j. getD u j 0),
+                    dot-small d (i * n) (take n x),
+                    modulus-below,
+                  );
             };
         claims = line-ready w (ready .vector-x) l (ready .long-claims);
-        few = omega (arith, counted, row-inside (length x + length u) l, ready .few);
+        few = omega (arith, counted, row-inside (rowCost G x u) l, ready .few);
       })
 
   pub row-step : {shift left : ℕ} {c : Answer} → shift ≡ lift (clamped G) → left ≡ offsetOf shift x
-      → c ≡ rowAnswer left right r s x u τ i (b .products) → c ≡ step-answer (rowSteps G a w x u τ products) i
-  row-step shift-is left-is e = e ∙ rw (left-is, shift-is, right-is, r-is, s-is, counted)
+      → c ≡ rowAnswer left (right + added) r s x u τ i (b .products + n) → c ≡ step-answer (rowSteps G a w d x u τ products) i
+  row-step shift-is left-is e = e ∙ rw (left-is, shift-is, right-is, added-is, r-is, s-is, counted, n-is)

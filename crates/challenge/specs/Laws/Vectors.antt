@@ -28,14 +28,14 @@ use Rattle.algebra.specs.Laws.IntegerSums.{residue-dot}
 use Rattle.algebra.specs.Laws.Positions.{row-inside}
 use Rattle.ticket.specs.declared.setting.Setting.{Setting}
 use Rattle.ticket.specs.declared.Answer.{Answer}
-use Rattle.ticket.specs.Rules.{mostRows, mostInner, mostColumns, part, partSize, ofA, ofB, ofQuotients, answer, entryB}
-use Rattle.ticket.specs.Laws.Decodes.{values-B}
+use Rattle.ticket.specs.Rules.{mostRows, mostInner, mostColumns, part, partSize, ofA, ofB, ofBias, ofQuotients, answer, entryB}
+use Rattle.ticket.specs.Laws.Decodes.{values-B, values-bias}
 use Rattle.ticket.specs.Laws.Layout.{partBytes}
-use Rattle.ticket.specs.Laws.Limits.{clamped, lift-small}
+use Rattle.ticket.specs.Laws.Limits.{bias-columns-most, clamped, lift-small}
 use Rattle.ticket.specs.Laws.Passes.{Passed}
 use Rattle.ticket.specs.Laws.Runs.{Steps, steps-answer, step-answer, RunTo}
 use Rattle.ticket.specs.Laws.Scans.{scan-cong, scan-by-first}
-use Rattle.challenge.specs.Rules.{challengeAt, balanced, productB, firstRow, vectorProducts, caught, verdict}
+use Rattle.challenge.specs.Rules.{challengeAt, balanced, productB, firstRow, rowProducts, vectorProducts, caught, verdict}
 use Rattle.challenge.specs.Laws.Lists.{Entries}
 use Rattle.challenge.specs.Laws.Products.{ResidueVector, ProductReady, rowsTimes, dotOf}
 use Rattle.challenge.specs.Laws.Rows.{VectorRowsReady, rowSteps, line-inside}
@@ -86,7 +86,7 @@ pub vector-ready : {G : Setting} {t x : List ℕ} {τ : ℕ} {a : Answer} → Li
     → VectorReady G t x τ (a .products)
 vector-ready {G} {τ = τ} {a} ready run l =
     let counts = ready .passed .counts in
-    let most : vectorProducts G ≤ mostInner * mostColumns + mostRows * mostColumns + mostRows * mostInner = omega arith in
+    let most : vectorProducts G ≤ mostInner * mostColumns + 2 * (mostRows * mostColumns) + mostRows * mostInner = omega arith in
     let made : a .products ≡ τ * vectorProducts G = ap (λ b. b .products) (run .answer-is) in
     record {
       list = ready;
@@ -161,8 +161,8 @@ module _ {G : Setting} {t x : List ℕ} {τ products : ℕ} (ready : VectorReady
         rooms : RoomFor G y u
         rooms = record { columns = ap length y-is ∙ vector-long; inner = made .long ∙ room .inner }
 
-        module _ {a w : List ℕ} (decoded : DecodedTo G t a w) where
-          pub rows-ready : VectorRowsReady G a w y u (products + G .inner * G .columns)
+        module _ {a w d : List ℕ} (d-is : d ≡ partBytes (clamped G) t ofBias) (decoded : DecodedTo G t a w) where
+          pub rows-ready : VectorRowsReady G a w d y u (products + G .inner * G .columns)
           rows-ready =
               let passed = ready .list .passed in
               record {
@@ -172,19 +172,21 @@ module _ {G : Setting} {t x : List ℕ} {τ products : ℕ} (ready : VectorReady
                 vector-u = product-vector;
                 long-A = rw (rooms .inner) (decoded .entries .long);
                 long-claims = rw (rooms .columns) (decoded .claims .long);
+                bias-fits = omega (arith, rooms .columns, bias-columns-most G);
+                long-bias = omega (arith, values-bias passed d-is .0);
                 small = rw (rooms .inner) (decoded .entries .small);
                 few = rw (rooms .columns, rooms .inner) (omega (arith, ready .few));
               }
 
-          pub vector-answered : {r : Answer} → r ≡ steps-answer (rowSteps G a w y u τ (products + G .inner * G .columns))
+          pub vector-answered : {r : Answer} → r ≡ steps-answer (rowSteps G a w d y u τ (products + G .inner * G .columns))
               → r ≡ step-answer (vectorSteps G t x) τ
           unfolding firstRow
           vector-answered {r} e =
               e
               ∙ scan-cong (G .rows) _ (balanced G t x τ) _ _
-              (λ i l. agrees-balanced (ready .list .passed) decoded x τ y u rooms (λ j m. ap (λ q. getD q j 0) y-is ∙ entries j m) product-made l)
+              (λ i l. agrees-balanced (ready .list .passed) decoded d-is x τ y u rooms (λ j m. ap (λ q. getD q j 0) y-is ∙ entries j m) product-made l)
               ∙ scan-by-first (G .rows) (balanced G t x τ) _ _
               ∙ rw (rooms .columns, rooms .inner, ready .products-are, counted)
             where
-              counted : τ * vectorProducts G + G .inner * G .columns + G .rows * (G .columns + G .inner) ≡ (τ + 1) * vectorProducts G
+              counted : τ * vectorProducts G + G .inner * G .columns + G .rows * rowProducts G ≡ (τ + 1) * vectorProducts G
               counted = omega arith

@@ -4,15 +4,20 @@
 --   shiftedAt b s k       the value of record k of b with s added, by a carried sum
 --   narrowShift, narrowed x, narrowAt b k   2^15; the 16-bit number of a shifted value x; that of record k of b
 --   liftedAt q r h a c    the value of record c of q with h added modulo p, times a, and the value of record c of r, modulo 2^32
---   ShiftedList b s l l', NarrowList b l l', LiftedList q r h a l l'   the list l' is l, filled with these as far as records and l go
+--   entryWord x           the entry that the value x stands for, modulo 2^32
+--   addedAt b s l k       that of record s + k of b, added to number k of l modulo 2^32
+--   ShiftedList b s l l', NarrowList b l l', LiftedList q r h a l l', AddedList b s l l'   the list l' is l, filled with these as far
+--                         as records and l go
 --   filled-to             a list filled as far as to k, where that is n
 --   narrow-bits           the number of a shifted value has 16 bits
 --   shifted-entry         a value with at least its entry's size added is that entry, shifted
+--   entry-word            the entry of a least residue, modulo 2^32
 --   decodable             how many bytes the code takes for a part of a ticket that passes, and which values
 --   ShiftedEntries G t a, entries-shifted   a holds the entries of A, each with the bound added
 --   LiftedClaims G t y, claims-lifted       y holds what the claims put for their sums, lifted
 --   entries-A, entries-B  the entries of A and of B as 16-bit numbers
---   values-B              the values of the records of B
+--   values-B, values-bias   the values of the records of B, and of the bias
+--   BiasAdded G t i l l', bias-added   l' is l with the bias of row i added modulo 2^32, and so does the code add it
 use Prim.Native.Nat.{ℕ, suc, _+_, _-_, _*_, _/_, _%_, _^_, _≤_, _<_, min}
 use native.Mathlib.Decide.{decLe}
 use native.Mathlib.Nat.{mod-eq-of-lt, mul-le-mul-left, mul-le-mul-right}
@@ -27,16 +32,16 @@ use mir.Val.{SFits}
 use Rattle.residue.specs.Rules.{modulus, leastResidue, signedEntry}
 use Rattle.residue.specs.Laws.Integers.{positive, negative, difference-of-naturals, equal-of-parts, parts-sum, parts-difference, parts-product, parts-within}
 use Rattle.residue.specs.Laws.Modulo.{carriedSum, carried-sum, carried-low, carried-high}
-use Rattle.residue.specs.Laws.Modulus.{modulus-above, modulus-below, modulus-odd}
-use Rattle.residue.specs.Laws.Residues.{entry-low, entry-high}
+use Rattle.residue.specs.Laws.Modulus.{modulus-positive, modulus-above, modulus-below, modulus-odd}
+use Rattle.residue.specs.Laws.Residues.{entry-low, entry-high, entry-small, residue-of-natural, residue-shift}
 use Rattle.algebra.specs.Laws.Fills.{Filled}
 use Rattle.algebra.specs.Laws.Positions.{by-rows}
 use Rattle.ticket.specs.declared.setting.Setting.{Setting}
-use Rattle.ticket.specs.Rules.{halfRange, lift, parts, part, partSize, ofA, ofB, ofQuotients, ofRemainders, recordBytes, valueAt, valueIn, shiftedQuotient, entryA, entryB, quotient, remainder, claim}
+use Rattle.ticket.specs.Rules.{halfRange, lift, parts, part, partSize, ofA, ofB, ofBias, ofQuotients, ofRemainders, biasColumns, recordBytes, valueAt, valueIn, shiftedQuotient, entryA, entryB, entryBias, quotient, remainder, claim}
 use Rattle.ticket.specs.Laws.Limits.{half-small, clamped, clamped-same}
 use Rattle.ticket.specs.Laws.Layout.{partBytes, part-bytes-long, value-of-part, value-in}
 use Rattle.ticket.specs.Laws.Passes.{Passed, valid}
-use Rattle.ticket.specs.Laws.Differences.{size-entryA, size-entryB, shifted-below, remainder-below, residue-entryB}
+use Rattle.ticket.specs.Laws.Differences.{residue-bias, size-entryA, size-entryB, shifted-below, remainder-below, residue-entryB}
 use Rattle.ticket.specs.Laws.Lifts.{Lifted}
 
 -- what the calls give, of any bytes
@@ -72,6 +77,15 @@ abbrev pub LiftedList : List ℕ → List ℕ → ℕ → ℕ → List ℕ → L
 LiftedList quotients remainders half scale before list =
     Filled 0 before (claimCount quotients remainders (length before)) (liftedAt quotients remainders half scale) list
 
+abbrev pub entryWord : ℕ → ℕ
+entryWord value = (carriedSum modulus value (modulus / 2) + (2 ^ 32 - modulus / 2)) % 2 ^ 32
+
+abbrev pub addedAt : List ℕ → ℕ → List ℕ → ℕ → ℕ
+addedAt bytes start list k = (getD list k 0 + entryWord (valueAt bytes (start + k))) % 2 ^ 32
+
+abbrev pub AddedList : List ℕ → ℕ → List ℕ → List ℕ → Type 0
+AddedList bytes start before list = Filled 0 before (min (length bytes / recordBytes - start) (length before)) (addedAt bytes start before) list
+
 pub filled-to : {A : Type 0} {d : A} {before list : List A} {f : ℕ → A} {k n : ℕ} → k ≡ n → Filled d before k f list → Filled d before n f list
 filled-to e filled = rw (← e) filled
 
@@ -99,6 +113,17 @@ module _ (p : ℕ) (odd : p % 2 ≡ 1) (few : p < 2 ^ 31) (s v : ℕ) (most : s 
             ∙ equal-of-parts (pos (v + s - p)) (negsuc (p - suc v) +ℤ pos s) (omega (arith, parts-sum (negsuc (p - suc v)) (pos s)))
             ∙ ap (λ z. z +ℤ pos s) (sym is)
       ]
+
+pub entry-word : (v : ℕ) → v < modulus → entryWord v ≡ leastResidue (2 ^ 32) (signedEntry modulus v)
+entry-word v least =
+    let s = modulus / 2 in
+    let x = carriedSum modulus v s in
+    let z = signedEntry modulus v in
+    let word : 0 < 2 ^ 32 = omega arith in
+    let shifted = shifted-entry modulus modulus-odd modulus-below s v (omega (arith, modulus-odd)) least (omega (arith, entry-small modulus modulus-positive v least modulus-odd, modulus-odd)) in
+    sym (residue-of-natural (2 ^ 32) word (x + (2 ^ 32 - s)))
+    ∙ residue-shift (2 ^ 32) word (pos (x + (2 ^ 32 - s))) z 0 1
+    (omega (arith, modulus-below, parts-sum z (pos s), ap positive shifted, ap negative shifted))
 
 module _ {G : Setting} {t : List ℕ} (passed : Passed G t) where
   pub decodable : (w : ℕ) {b : List ℕ} → b ≡ partBytes (clamped G) t w → (length b ≡ recordBytes * partSize (part G w))
@@ -223,3 +248,10 @@ module _ {G : Setting} {t : List ℕ} (passed : Passed G t) where
   values-B b-is =
       let d = decodable passed ofB b-is in
       (d .0, λ k j l m. d .1 k j l m ∙ sym (residue-entryB passed k j l m))
+
+  pub values-bias : {b : List ℕ} → b ≡ partBytes (clamped G) t ofBias → (length b ≡ recordBytes * (G .rows * biasColumns G))
+      × ((i j : ℕ) → i < G .rows → j < biasColumns G → valueAt b (i * biasColumns G + j) ≡ leastResidue modulus (entryBias G t i j))
+  unfolding parts part
+  values-bias b-is =
+      let d = decodable passed ofBias b-is in
+      (d .0, λ i j l m. d .1 i j l m ∙ sym (residue-bias passed i j l m))

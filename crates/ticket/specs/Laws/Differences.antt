@@ -11,7 +11,8 @@
 --   size-sum-of                of entries within their bounds it is at most as large as it can be
 --   size-due                   so is what a claim is compared with
 --   claims-close               a claim and what it is compared with are less than p apart
---   residue-entryA, residue-entryB, residue-quotient, residue-remainder   a record's value is the least residue of what it stands for
+--   residue-entryA, residue-entryB, residue-bias, residue-quotient, residue-remainder   a record's value is the least residue of what
+--                              it stands for
 --   claim-decided              a claim is true or untrue
 --   claims-true                a ticket that is false in no column has every claim true
 --   ticket-decided             a ticket is false in no column, or in some column (C7)
@@ -34,7 +35,7 @@ use Rattle.algebra.specs.Laws.MatrixProducts.{size-matrixProduct}
 use Rattle.ticket.specs.declared.setting.Setting.{Setting}
 use Rattle.ticket.specs.Rules.{reach, halfRange, isEntry, shiftedQuotient, parts, part, ofA, ofB, ofBias, ofQuotients, ofRemainders, biasBound, biasColumns, valueIn, entryA, entryB, entryBias, quotient, remainder, claim, exactSum, biasedSum, due, Untrue, FalseIn}
 use Rattle.ticket.specs.Laws.First.{true-or-false, all-or-first}
-use Rattle.ticket.specs.Laws.Limits.{half-double, with-bias}
+use Rattle.ticket.specs.Laws.Limits.{half-double, with-bias, bias-there}
 use Rattle.ticket.specs.Laws.Passes.{Passed, Valid, valid}
 
 -- the size of the difference of two numbers that are at most b apart
@@ -136,6 +137,11 @@ module _ {G : Setting} {t : List ℕ} (passed : Passed G t) where
   pub residue-entryA : (i k : ℕ) → i < G .rows → k < G .inner → leastResidue modulus (entryA G t i k) ≡ valueIn G t ofA i k
   unfolding entryA parts part
   residue-entryA i k l m = residue-of-entry modulus modulus-positive _ (valid passed ofA i k l m .below)
+
+  pub residue-bias : (i j : ℕ) → i < G .rows → j < biasColumns G → leastResidue modulus (entryBias G t i j) ≡ valueIn G t ofBias i j
+  residue-bias i j l m =
+      let h = bias-there G m in
+      rw (bias-entry G t i j (h .0)) (residue-of-entry modulus modulus-positive _ (valid-bias i j l (h .1) (h .0) .below))
 
   pub residue-entryB : (k j : ℕ) → k < G .inner → j < G .columns → leastResidue modulus (entryB G t k j) ≡ valueIn G t ofB k j
   unfolding entryB parts part

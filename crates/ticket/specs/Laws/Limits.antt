@@ -11,6 +11,7 @@
 --   SettingRow G c, setting-in-table   c is a number of the published table for a setting, and so is that of a test that fails
 --   setting-holds          they all hold, where the number of the setting is 0
 --   with-bias, without-bias   bound and columns of the bias, where there is one and where there is none
+--   bias-there             a column of the bias is one of the claims, and there is a bias
 --   bias-columns-most      the bias has at most as many columns as the claims
 --   Counts G, counts       how many records the parts have at most, numbers a challenge list, and products all sums
 --   half-small, half-double   half of the quotients' range is small, and twice that is the range
@@ -81,6 +82,10 @@ module _ (G : Setting) where
   pub without-bias : G .biased ≡ false → (biasBound G ≡ 0) × (biasColumns G ≡ 0)
   unfolding biasBound biasColumns
   without-bias e = rw e (refl, refl)
+
+  pub bias-there : {j : ℕ} → j < biasColumns G → (G .biased ≡ true) × (j < G .columns)
+  bias-there m =
+      ⊎-elim (λ e. (e, omega (arith, with-bias e .1))) (λ e. absurd (omega (arith, without-bias e .1))) (true-or-false (G .biased))
 
   pub bias-columns-most : biasColumns G ≤ G .columns
   bias-columns-most = ⊎-elim (λ e. omega (arith, with-bias e .1)) (λ e. omega (arith, without-bias e .1)) (true-or-false (G .biased))
