@@ -59,7 +59,7 @@ fn check_large(setting: Setting, ticket: &[u8]) -> Answer
 }
 
 // The same, with room for the rows of A, the columns of B and the claims. The rows of B stand where those of A do after them, until
-// they are turned.
+// they are turned. The bias is taken off the claims, so that these are compared with the sums alone.
 fn decode_and_compare(
     setting: Setting,
     ticket: &[u8],
@@ -74,17 +74,19 @@ fn decode_and_compare(
     let b = ticket::part(setting, ticket, PartNumber::B);
     let quotients = ticket::part(setting, ticket, PartNumber::QUOTIENTS);
     let remainders = ticket::part(setting, ticket, PartNumber::REMAINDERS);
+    let bias = ticket::part(setting, ticket, PartNumber::BIAS);
     ticket::narrow_entries(b, rows);
     exact::turn(rows, setting.inner as u16, setting.columns as u16, columns);
     ticket::narrow_entries(a, rows);
     ticket::lifted_claims(quotients, remainders, setting.half(), setting.scale, claims);
+    ticket::subtract_entries(bias, claims);
     let width = setting.columns as usize;
     let mut sums = [0; ROW];
     compare(setting, rows, columns, claims, &mut sums[..width])
 }
 
-// Each sum, row by row, against its claim, with room for the sums of a row. Sums and claims are lifted, so that none is negative; both
-// are then known from their value modulo 2^32.
+// Each sum, row by row, against its claim, with room for the sums of a row. Sums and claims are lifted, and compared modulo 2^32: they
+// are less than p apart.
 fn compare(
     setting: Setting,
     rows: &[i16],

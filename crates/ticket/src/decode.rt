@@ -5,7 +5,7 @@ ghost use mathlib.Core.Path.{_≡_};
 ghost use Prim.Native.Nat.{_+_, _*_, _%_, _^_};
 ghost use Rattle.residue.specs.Rules.{modulus};
 ghost use Rattle.residue.specs.Laws.Modulo.{carriedSum};
-ghost use Rattle.ticket.specs.Laws.Decodes.{narrowed, entryWord, ShiftedList, NarrowList, LiftedList, AddedList};
+ghost use Rattle.ticket.specs.Laws.Decodes.{narrowed, negatedWord, ShiftedList, NarrowList, LiftedList, LessList};
 use crate::parts::RECORD;
 use crate::parts::fewer;
 use crate::parts::value_at;
@@ -62,17 +62,15 @@ pub fn lifted_claims(
     }
 }
 
-// The entries that the values of the records from start on stand for, added to the numbers of a list modulo 2^32.
-pub fn add_entries(records: &[u8], start: usize, list: &mut [u32])
-    ensures { λ r. ⌜ AddedList (now (records .entry)) start (now (list .entry)) (now (list .exit)) ⌝ }
+// The entries that the values of records stand for, taken off the numbers of a list modulo 2^32.
+pub fn subtract_entries(records: &[u8], list: &mut [u32])
+    ensures { λ r. ⌜ LessList (now (records .entry)) (now (list .entry)) (now (list .exit)) ⌝ }
 {
-    let held = records.len() / RECORD;
-    let from = fewer(start, held);
-    let count = fewer(held - from, list.len());
+    let count = fewer(records.len() / RECORD, list.len());
     let mut k = 0;
     while k < count {
-        let word = entry_word(value_at(records, from + k));
-        list[k] = std::num::wrapping_add_u32(list[k], word);
+        let negative = negated(value_at(records, k));
+        list[k] = std::num::wrapping_add_u32(list[k], negative);
         k += 1;
     }
 }
@@ -88,13 +86,12 @@ fn shifted(value: Residue, shift: u32) -> Residue
     Residue(std::num::wrapping_add_u32(sum, value.0 / (wrap / 2)) % wrap)
 }
 
-// The entry that a value stands for, modulo 2^32.
-fn entry_word(value: Residue) -> u32
-    ensures { λ r. ⌜ r ≡ entryWord (value .0) ⌝ }
+// The negative of the entry that a value stands for, modulo 2^32.
+fn negated(value: Residue) -> u32
+    ensures { λ r. ⌜ r ≡ negatedWord (value .0) ⌝ }
 {
     let largest = Residue::modulus() / 2;
-    let back = (WORD - (largest as u64)) as u32;
-    std::num::wrapping_add_u32(shifted(value, largest).0, back)
+    std::num::wrapping_sub_u32(largest, shifted(value, largest).0)
 }
 
 // The entry of 16 bits whose value, shifted by 2^15, this is.

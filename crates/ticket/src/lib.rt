@@ -6,10 +6,10 @@ mod published;
 mod records;
 mod setting;
 
-pub use decode::add_entries;
 pub use decode::lifted_claims;
 pub use decode::narrow_entries;
 pub use decode::shifted_entries;
+pub use decode::subtract_entries;
 pub use parts::RECORD;
 pub use parts::part;
 pub use parts::value;

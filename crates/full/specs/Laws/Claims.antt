@@ -2,7 +2,8 @@
 --
 --   Space G a b c       a numbers have room for the rows of A and for those of B, b for the columns of B, c for the claims
 --   small-space         so it is for a ticket whose operands and claims are few
---   ListsHold G t A B y   A and B hold the entries of the operands, row by row and column by column, and y the claims, lifted
+--   ListsHold G t A B y   A and B hold the entries of the operands, row by row and column by column, and y the claims for the sums,
+--                       lifted
 --   lists-hold          so they do for a ticket that passes
 --   sums-ready          its sums can be compared
 --   sums-verdict        and their answer is the verdict
@@ -14,19 +15,23 @@ use mathlib.Core.Path.{_≡_, sym, ap, _∙_}
 use mathlib.Core.List.{List}
 use borrow.Author.Tests.{eq-eqb, ne-eqb}
 use lib.Arith.{digits-div, digits-mod}
-use lib.IntN.{ℤ, pos}
+use lib.IntN.{ℤ, pos, natAbs, _+ℤ_, _-ℤ_}
 use lib.ListN.{length, getD}
+use Rattle.residue.specs.Rules.{leastResidue}
+use Rattle.residue.specs.Laws.Modulus.{modulus-below}
+use Rattle.residue.specs.Laws.Residues.{residue-of-residue, residue-sum}
+use Rattle.algebra.specs.Rules.{matrixProduct}
 use Rattle.algebra.specs.Laws.Fills.{Filled}
 use Rattle.algebra.specs.Laws.Positions.{row-inside, by-rows}
 use Rattle.exact.specs.Laws.Matrices.{Turned, turned-at, sums-exact}
 use Rattle.ticket.specs.declared.setting.Setting.{Setting}
 use Rattle.ticket.specs.declared.Answer.{Answer}
-use Rattle.ticket.specs.Rules.{answer, scan, lift, reading, part, partSize, ofA, ofB, ofQuotients, ofRemainders, halfRange, entryA, entryB, claim, due}
-use Rattle.ticket.specs.Laws.Decodes.{decodedCount, claimCount, narrowAt, liftedAt, LiftedClaims, claims-lifted, entries-A, entries-B}
-use Rattle.ticket.specs.Laws.Differences.{due-is, exactSum-is, size-due}
+use Rattle.ticket.specs.Rules.{answer, scan, lift, reading, part, partSize, ofA, ofB, ofBias, ofQuotients, ofRemainders, halfRange, entryA, entryB, entryBias, claim, due}
+use Rattle.ticket.specs.Laws.Decodes.{decodedCount, claimCount, narrowAt, liftedAt, LessList, SumClaims, claims-lifted, claims-less, entries-A, entries-B}
+use Rattle.ticket.specs.Laws.Differences.{biasedSum-is, claims-close}
 use Rattle.ticket.specs.Laws.Layout.{partBytes, parts-are}
-use Rattle.ticket.specs.Laws.Lifts.{Lifted, lifted-sum, lifted-same}
-use Rattle.ticket.specs.Laws.Limits.{clamped, clamped-same}
+use Rattle.ticket.specs.Laws.Lifts.{lifted-decides}
+use Rattle.ticket.specs.Laws.Limits.{lift-small, clamped, clamped-same}
 use Rattle.ticket.specs.Laws.Passes.{Passed, passed-of}
 use Rattle.ticket.specs.Laws.Runs.{steps-answer}
 use Rattle.ticket.specs.Laws.Scans.{after-passed, after-refused, scan-cong}
@@ -44,7 +49,7 @@ pub record ListsHold (G : Setting) (t : List ℕ) (A B : List ℤ) (claims : Lis
   pub columns-long : G .columns * G .inner ≤ length B
   pub row : (i k : ℕ) → i < G .rows → k < G .inner → getD A (i * G .inner + k) (pos 0) ≡ entryA G t i k
   pub column : (k j : ℕ) → k < G .inner → j < G .columns → getD B (j * G .inner + k) (pos 0) ≡ entryB G t k j
-  pub claimed : LiftedClaims G t claims
+  pub claimed : SumClaims G t claims
 
 module _ {G : Setting} {t : List ℕ} (passed : Passed G t) where
   pub small-space : {a b c n : ℕ} → a ≡ partSize (part (clamped G) ofA) → b ≡ partSize (part (clamped G) ofB)
@@ -56,14 +61,15 @@ module _ {G : Setting} {t : List ℕ} (passed : Passed G t) where
       omega (arith, rw same at a-is, rw same at b-is, rw same at c-is, are .size-A, are .size-B, are .size-quotients) in
       record { rows = (few .0, few .1); columns = few .1; claims = few .2 }
 
-  module _ {a b q r : List ℕ} {half : ℕ} {A A' A'' B B' : List ℤ} {y y' : List ℕ}
-      (space : Space G (length A'') (length B') (length y'))
+  module _ {a b q r d : List ℕ} {half : ℕ} {A A' A'' B B' : List ℤ} {y y' y'' : List ℕ}
+      (space : Space G (length A'') (length B') (length y''))
       (a-is : a ≡ partBytes (clamped G) t ofA) (b-is : b ≡ partBytes (clamped G) t ofB)
-      (q-is : q ≡ partBytes (clamped G) t ofQuotients) (r-is : r ≡ partBytes (clamped G) t ofRemainders) (half-is : half ≡ halfRange (clamped G))
+      (q-is : q ≡ partBytes (clamped G) t ofQuotients) (r-is : r ≡ partBytes (clamped G) t ofRemainders) (d-is : d ≡ partBytes (clamped G) t ofBias)
+      (half-is : half ≡ halfRange (clamped G))
       (entries-of-B : Filled (pos 0) A'' (decodedCount b (length A'')) (narrowAt b) A')
       (turned : Turned A' (G .inner) (G .columns) B' B)
       (entries-of-A : Filled (pos 0) A' (decodedCount a (length A')) (narrowAt a) A)
-      (claims : Filled 0 y' (claimCount q r (length y')) (liftedAt q r half (G .scale)) y) where
+      (claims : Filled 0 y'' (claimCount q r (length y'')) (liftedAt q r half (G .scale)) y') (less : LessList d y' y) where
     pub lists-hold : ListsHold G t A B y
     lists-hold =
         let room-A : G .rows * G .inner ≤ length A' = omega (arith, space .rows, entries-of-B .long) in
@@ -74,7 +80,7 @@ module _ {G : Setting} {t : List ℕ} (passed : Passed G t) where
           row = entries-A passed entries-of-A a-is room-A;
           column = λ k j l m.
               turned-at turned room-B (space .columns) k j l m ∙ entries-B passed entries-of-B b-is (space .rows .1) k j l m;
-          claimed = claims-lifted passed q-is r-is half-is (space .claims) claims;
+          claimed = claims-less passed d-is (claims-lifted passed q-is r-is half-is (space .claims) claims) less;
         }
 
   module _ {A B : List ℤ} {y : List ℕ} (holding : ListsHold G t A B y) where
@@ -89,16 +95,20 @@ module _ {G : Setting} {t : List ℕ} (passed : Passed G t) where
         let z = getD y (i * G .columns + j) 0 in
         let C = claim G t i j in
         let S = due G t i j in
+        let P = matrixProduct (G .inner) (entryA G t) (entryB G t) i j in
+        let c = entryBias G t i j in
+        let word : 0 < 2 ^ 32 = omega arith in
         let exact = sums-exact (G .inner) A B (entryA G t) (entryB G t) i j (omega (arith, row-inside (G .inner) l, holding .rows-long))
         (omega (arith, row-inside (G .inner) m, holding .columns-long)) (λ k h. holding .row i k l h) (λ k h. holding .column k j h m) in
-        let sum : Lifted G S x =
-        lifted-sum (passed .numbers) (passed .fitted) S (size-due passed i j l m)
-        (rw (exact, due-is G t i j, exactSum-is G (entryA G t) (entryB G t) i j)) in
-        let decides = lifted-same G sum (holding .claimed .each i j l m) in
+        let sum : x ≡ leastResidue (2 ^ 32) (P +ℤ pos (lift G)) =
+        rw exact (sym (residue-sum (2 ^ 32) word P (pos (lift G)) ∙ rw (residue-of-residue (2 ^ 32) word (lift G) (omega (arith, lift-small (passed .numbers) (passed .fitted), modulus-below))))) in
+        let due-is = biasedSum-is G (entryA G t) (entryB G t) (entryBias G t) i j in
+        let close : natAbs (C -ℤ (P +ℤ c)) < 2 ^ 32 = omega (arith, rw due-is at (claims-close passed i j l m), modulus-below) in
+        let decides = lifted-decides (2 ^ 32) word (lift G) P C c close sum (holding .claimed .each i j l m) in
         rw (digits-div i m, digits-mod i m)
         (elim (ℕ-discrete x z) [
-          | yes e ↦ eq-eqb x z e ∙ sym (same-equal C S (sym (decides .0 e)))
-          | no d ↦ ne-eqb x z d ∙ sym (same-other C S (λ e. d (decides .1 (sym e))))
+          | yes e ↦ eq-eqb x z e ∙ sym (same-equal C S (decides .0 e ∙ sym due-is))
+          | no d ↦ ne-eqb x z d ∙ sym (same-other C S (λ e. d (decides .1 (e ∙ due-is))))
         ])
 
     pub sums-verdict : steps-answer (sumSteps G A B y) ≡ fullVerdict G t

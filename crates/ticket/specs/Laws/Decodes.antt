@@ -4,25 +4,28 @@
 --   shiftedAt b s k       the value of record k of b with s added, by a carried sum
 --   narrowShift, narrowed x, narrowAt b k   2^15; the 16-bit number of a shifted value x; that of record k of b
 --   liftedAt q r h a c    the value of record c of q with h added modulo p, times a, and the value of record c of r, modulo 2^32
---   entryWord x           the entry that the value x stands for, modulo 2^32
---   addedAt b s l k       that of record s + k of b, added to number k of l modulo 2^32
---   ShiftedList b s l l', NarrowList b l l', LiftedList q r h a l l', AddedList b s l l'   the list l' is l, filled with these as far
+--   negatedWord x         the negative of the entry that the value x stands for, modulo 2^32
+--   lessAt b l k          number k of l less the entry of record k of b, modulo 2^32
+--   ShiftedList b s l l', NarrowList b l l', LiftedList q r h a l l', LessList b l l'   the list l' is l, filled with these as far
 --                         as records and l go
 --   filled-to             a list filled as far as to k, where that is n
 --   narrow-bits           the number of a shifted value has 16 bits
 --   shifted-entry         a value with at least its entry's size added is that entry, shifted
---   entry-word            the entry of a least residue, modulo 2^32
+--   negated-by            it by a difference that wraps
+--   negated-word          the negative of the entry of a least residue, modulo 2^32
 --   decodable             how many bytes the code takes for a part of a ticket that passes, and which values
 --   ShiftedEntries G t a, entries-shifted   a holds the entries of A, each with the bound added
 --   LiftedClaims G t y, claims-lifted       y holds what the claims put for their sums, lifted
 --   entries-A, entries-B  the entries of A and of B as 16-bit numbers
 --   values-B, values-bias   the values of the records of B, and of the bias
---   BiasAdded G t i l l', bias-added   l' is l with the bias of row i added modulo 2^32, and so does the code add it
+--   SumClaims G t y, claims-less   y holds what the claims put for the exact sums, the bias taken off, lifted modulo 2^32
 use Prim.Native.Nat.{ℕ, suc, _+_, _-_, _*_, _/_, _%_, _^_, _≤_, _<_, min}
 use native.Mathlib.Decide.{decLe}
-use native.Mathlib.Nat.{mod-eq-of-lt, mul-le-mul-left, mul-le-mul-right}
+use native.Mathlib.Nat.{mod-lt, mod-eq-of-lt, mul-le-mul-left, mul-le-mul-right}
 use native.Mathlib.Omega.{arith}
 use mathlib.Core.Path.{_≡_, sym, ap, _∙_}
+use mathlib.Core.Bool.{true, false}
+use mathlib.Core.Logic.{⊎-elim}
 use mathlib.Core.List.{List}
 use lib.Arith.{digits-lt}
 use lib.IntN.{ℤ, pos, negsuc, natAbs, _+ℤ_, _-ℤ_, _*ℤ_}
@@ -33,15 +36,16 @@ use Rattle.residue.specs.Rules.{modulus, leastResidue, signedEntry}
 use Rattle.residue.specs.Laws.Integers.{positive, negative, difference-of-naturals, equal-of-parts, parts-sum, parts-difference, parts-product, parts-within}
 use Rattle.residue.specs.Laws.Modulo.{carriedSum, carried-sum, carried-low, carried-high}
 use Rattle.residue.specs.Laws.Modulus.{modulus-positive, modulus-above, modulus-below, modulus-odd}
-use Rattle.residue.specs.Laws.Residues.{entry-low, entry-high, entry-small, residue-of-natural, residue-shift}
+use Rattle.residue.specs.Laws.Residues.{entry-low, entry-high, entry-small, residue-of-natural, residue-of-residue, residue-shift, residue-sum}
 use Rattle.algebra.specs.Laws.Fills.{Filled}
 use Rattle.algebra.specs.Laws.Positions.{by-rows}
 use Rattle.ticket.specs.declared.setting.Setting.{Setting}
 use Rattle.ticket.specs.Rules.{halfRange, lift, parts, part, partSize, ofA, ofB, ofBias, ofQuotients, ofRemainders, biasColumns, recordBytes, valueAt, valueIn, shiftedQuotient, entryA, entryB, entryBias, quotient, remainder, claim}
-use Rattle.ticket.specs.Laws.Limits.{half-small, clamped, clamped-same}
+use Rattle.ticket.specs.Laws.First.{true-or-false}
+use Rattle.ticket.specs.Laws.Limits.{with-bias, without-bias, half-small, clamped, clamped-same}
 use Rattle.ticket.specs.Laws.Layout.{partBytes, part-bytes-long, value-of-part, value-in}
 use Rattle.ticket.specs.Laws.Passes.{Passed, valid}
-use Rattle.ticket.specs.Laws.Differences.{residue-bias, size-entryA, size-entryB, shifted-below, remainder-below, residue-entryB}
+use Rattle.ticket.specs.Laws.Differences.{bias-entry, no-bias-entry, residue-bias, size-entryA, size-entryB, shifted-below, remainder-below, residue-entryB}
 use Rattle.ticket.specs.Laws.Lifts.{Lifted}
 
 -- what the calls give, of any bytes
@@ -77,14 +81,14 @@ abbrev pub LiftedList : List ℕ → List ℕ → ℕ → ℕ → List ℕ → L
 LiftedList quotients remainders half scale before list =
     Filled 0 before (claimCount quotients remainders (length before)) (liftedAt quotients remainders half scale) list
 
-abbrev pub entryWord : ℕ → ℕ
-entryWord value = (carriedSum modulus value (modulus / 2) + (2 ^ 32 - modulus / 2)) % 2 ^ 32
+abbrev pub negatedWord : ℕ → ℕ
+negatedWord value = (2 ^ 32 + modulus / 2 - carriedSum modulus value (modulus / 2)) % 2 ^ 32
 
-abbrev pub addedAt : List ℕ → ℕ → List ℕ → ℕ → ℕ
-addedAt bytes start list k = (getD list k 0 + entryWord (valueAt bytes (start + k))) % 2 ^ 32
+abbrev pub lessAt : List ℕ → List ℕ → ℕ → ℕ
+lessAt bytes list k = (getD list k 0 + negatedWord (valueAt bytes k)) % 2 ^ 32
 
-abbrev pub AddedList : List ℕ → ℕ → List ℕ → List ℕ → Type 0
-AddedList bytes start before list = Filled 0 before (min (length bytes / recordBytes - start) (length before)) (addedAt bytes start before) list
+abbrev pub LessList : List ℕ → List ℕ → List ℕ → Type 0
+LessList bytes before list = Filled 0 before (decodedCount bytes (length before)) (lessAt bytes before) list
 
 pub filled-to : {A : Type 0} {d : A} {before list : List A} {f : ℕ → A} {k n : ℕ} → k ≡ n → Filled d before k f list → Filled d before n f list
 filled-to e filled = rw (← e) filled
@@ -114,16 +118,31 @@ module _ (p : ℕ) (odd : p % 2 ≡ 1) (few : p < 2 ^ 31) (s v : ℕ) (most : s 
             ∙ ap (λ z. z +ℤ pos s) (sym is)
       ]
 
-pub entry-word : (v : ℕ) → v < modulus → entryWord v ≡ leastResidue (2 ^ 32) (signedEntry modulus v)
-entry-word v least =
+pub negated-by : (v : ℕ) {p x r : ℕ} → p ≡ modulus → x ≡ carriedSum modulus v (p / 2) → x < 2 ^ 32 → r < 2 ^ 32 → (r + x) % 2 ^ 32 ≡ p / 2
+    → r ≡ negatedWord v
+negated-by v {x = x} p-is x-is x-word r-word wraps =
+    let same : x ≡ carriedSum modulus v (modulus / 2) = rw p-is at x-is in
+    omega (arith, ap (λ n. n / 2) p-is, modulus-below)
+
+pub negated-word : (v : ℕ) → v < modulus → negatedWord v ≡ leastResidue (2 ^ 32) (pos 0 -ℤ signedEntry modulus v)
+negated-word v least =
     let s = modulus / 2 in
     let x = carriedSum modulus v s in
     let z = signedEntry modulus v in
     let word : 0 < 2 ^ 32 = omega arith in
-    let shifted = shifted-entry modulus modulus-odd modulus-below s v (omega (arith, modulus-odd)) least (omega (arith, entry-small modulus modulus-positive v least modulus-odd, modulus-odd)) in
-    sym (residue-of-natural (2 ^ 32) word (x + (2 ^ 32 - s)))
-    ∙ residue-shift (2 ^ 32) word (pos (x + (2 ^ 32 - s))) z 0 1
-    (omega (arith, modulus-below, parts-sum z (pos s), ap positive shifted, ap negative shifted))
+    let size = entry-small modulus modulus-positive v least modulus-odd in
+    let shifted = shifted-entry modulus modulus-odd modulus-below s v (omega (arith, modulus-odd)) least (omega (arith, modulus-odd)) in
+    sym (residue-of-natural (2 ^ 32) word (2 ^ 32 + s - x))
+    ∙ residue-shift (2 ^ 32) word (pos (2 ^ 32 + s - x)) (pos 0 -ℤ z) 0 1
+    (omega (
+      arith,
+      modulus-below,
+      parts-sum z (pos s),
+      parts-difference (pos 0) z,
+      parts-within z s (omega (arith, modulus-odd)),
+      ap positive shifted,
+      ap negative shifted,
+    ))
 
 module _ {G : Setting} {t : List ℕ} (passed : Passed G t) where
   pub decodable : (w : ℕ) {b : List ℕ} → b ≡ partBytes (clamped G) t w → (length b ≡ recordBytes * partSize (part G w))
@@ -144,6 +163,12 @@ pub record ShiftedEntries (G : Setting) (t a : List ℕ) : Type 0 where
 pub record LiftedClaims (G : Setting) (t y : List ℕ) : Type 0 where
   pub long : G .rows * G .columns ≤ length y
   pub each : (i j : ℕ) → i < G .rows → j < G .columns → Lifted G (claim G t i j) (getD y (i * G .columns + j) 0)
+  pub words : (i j : ℕ) → i < G .rows → j < G .columns → getD y (i * G .columns + j) 0 < 2 ^ 32
+
+pub record SumClaims (G : Setting) (t y : List ℕ) : Type 0 where
+  pub long : G .rows * G .columns ≤ length y
+  pub each : (i j : ℕ) → i < G .rows → j < G .columns
+      → getD y (i * G .columns + j) 0 ≡ leastResidue (2 ^ 32) (claim G t i j +ℤ pos (lift G) -ℤ entryBias G t i j)
 
 module _ {G : Setting} {t : List ℕ} (passed : Passed G t) where
   bound-small : (narrowShift ≤ (modulus - 1) / 2) × (G .bound ≤ (modulus - 1) / 2)
@@ -172,18 +197,22 @@ module _ {G : Setting} {t : List ℕ} (passed : Passed G t) where
   module _ {y before q r : List ℕ} {half : ℕ} (q-is : q ≡ partBytes (clamped G) t ofQuotients) (r-is : r ≡ partBytes (clamped G) t ofRemainders)
       (half-is : half ≡ halfRange (clamped G)) (room : G .rows * G .columns ≤ length before)
       (filled : LiftedList q r half (G .scale) before y) where
+    inside : (i j : ℕ) → i < G .rows → j < G .columns → i * G .columns + j < claimCount q r (length before)
+    unfolding parts part
+    inside i j l m = omega (arith, decodable passed ofQuotients q-is .0, decodable passed ofRemainders r-is .0, digits-lt l m)
+
     pub claims-lifted : LiftedClaims G t y
     unfolding parts part claim quotient remainder shiftedQuotient
     claims-lifted =
         record {
           long = omega (arith, filled .long);
+          words = λ i j l m. rw (filled .each (i * G .columns + j) (inside i j l m)) (mod-lt _ (omega arith));
           each = λ i j l m.
               let d = decodable passed ofQuotients q-is in
               let e = decodable passed ofRemainders r-is in
               let value = valueIn G t ofQuotients i j in
               let shifted = shiftedQuotient (G .width) value in
               let left = valueIn G t ofRemainders i j in
-              let inside : i * G .columns + j < claimCount q r (length before) = omega (arith, d .0, e .0, digits-lt l m) in
               let same : half ≡ halfRange G = half-is ∙ ap halfRange (clamped-same (passed .counts .sizes) (passed .numbers)) in
               let scaled = mul-le-mul-right (G .scale) (shifted-below passed i j l m) in
               let twice = mul-le-mul-left shifted (passed .numbers .scale .0) in
@@ -191,7 +220,7 @@ module _ {G : Setting} {t : List ℕ} (passed : Passed G t) where
               (omega (arith, half-small {G = G} (passed .numbers), modulus-above)) (omega (arith, scaled, twice, passed .fitted .claims)) in
               let few : shifted * G .scale + left < 2 ^ 32 =
               omega (arith, scaled, passed .fitted .claims, modulus-below, remainder-below passed i j l m) in
-              ap pos (filled .each (i * G .columns + j) inside ∙ rw (d .1 i j l m, e .1 i j l m, same, carried, mod-eq-of-lt few))
+              ap pos (filled .each (i * G .columns + j) (inside i j l m) ∙ rw (d .1 i j l m, e .1 i j l m, same, carried, mod-eq-of-lt few))
               ∙ claim-lifted shifted left;
         }
       where
@@ -255,3 +284,49 @@ module _ {G : Setting} {t : List ℕ} (passed : Passed G t) where
   values-bias b-is =
       let d = decodable passed ofBias b-is in
       (d .0, λ i j l m. d .1 i j l m ∙ sym (residue-bias passed i j l m))
+
+  module _ {d y y' : List ℕ} (d-is : d ≡ partBytes (clamped G) t ofBias) (claims : LiftedClaims G t y') (less : LessList d y' y) where
+    module _ (i j : ℕ) (l : i < G .rows) (m : j < G .columns) where
+      abbrev k : ℕ
+      k = i * G .columns + j
+
+      abbrev C : ℤ
+      C = claim G t i j +ℤ pos (lift G)
+
+      word : 0 < 2 ^ 32
+      word = omega arith
+
+      lifted : leastResidue (2 ^ 32) C ≡ getD y' k 0
+      lifted = ap (leastResidue (2 ^ 32)) (sym (claims .each i j l m)) ∙ residue-of-residue (2 ^ 32) word (getD y' k 0) (claims .words i j l m)
+
+      -- where there is a bias, its entry is taken off
+      less-bias : G .biased ≡ true → getD y k 0 ≡ leastResidue (2 ^ 32) (C -ℤ entryBias G t i j)
+      unfolding parts part
+      less-bias there =
+          let wide = with-bias G there .1 in
+          let h = decodable passed ofBias d-is in
+          let v = valueIn G t ofBias i j in
+          let value : valueAt d k ≡ v = rw wide at (h .1 i j l (rw wide m)) in
+          let minus = negated-word v (valid passed ofBias i j l (rw wide m) .below) in
+          less .each k (omega (arith, h .0, ap (λ n. G .rows * n) wide, claims .long, digits-lt l m))
+          ∙ rw (value, minus, bias-entry G t i j there, ← lifted) (sym (residue-sum (2 ^ 32) word C (pos 0 -ℤ signedEntry modulus v)) ∙ ap (leastResidue (2 ^ 32)) (taken C (signedEntry modulus v)))
+        where
+          taken : (a b : ℤ) → a +ℤ (pos 0 -ℤ b) ≡ a -ℤ b
+          taken a b =
+              equal-of-parts (a +ℤ (pos 0 -ℤ b)) (a -ℤ b)
+              (omega (arith, parts-sum a (pos 0 -ℤ b), parts-difference (pos 0) b, parts-difference a b))
+
+      -- where there is none, nothing is
+      less-none : G .biased ≡ false → getD y k 0 ≡ leastResidue (2 ^ 32) (C -ℤ entryBias G t i j)
+      unfolding parts part
+      less-none none =
+          let h = decodable passed ofBias d-is in
+          less .rest k (omega (arith, h .0, ap (λ n. G .rows * n) (without-bias G none .1)))
+          ∙ rw (no-bias-entry G t i j none) (sym lifted ∙ ap (leastResidue (2 ^ 32)) (equal-of-parts C (C -ℤ pos 0) (omega (arith, parts-difference C (pos 0)))))
+
+    pub claims-less : SumClaims G t y
+    claims-less =
+        record {
+          long = omega (arith, claims .long, less .long);
+          each = λ i j l m. ⊎-elim (less-bias i j l m) (less-none i j l m) (true-or-false (G .biased));
+        }

@@ -3,16 +3,16 @@
 --   Lifted G S x    x is the integer S, lifted
 --   lifted-small    a lifted sum is below p, where S is at most as large as a sum can be
 --   lifted-sum      x is the lifted sum, where it is so modulo 2^32
---   lifted-same     two integers are equal exactly when their lifts are
+--   lifted-decides  a claim C is P + c exactly when P and C - c, both lifted, are equal modulo p, where it is less than p from P + c
 use Prim.Native.Nat.{ℕ, _+_, _-_, _%_, _^_, _≤_, _<_}
 use native.Mathlib.Omega.{arith}
 use mathlib.Core.Path.{_≡_, sym, ap, _∙_}
 use mathlib.Core.Logic.{_↔_}
-use lib.IntN.{ℤ, pos, natAbs, _+ℤ_}
+use lib.IntN.{ℤ, pos, natAbs, _+ℤ_, _-ℤ_}
 use Rattle.residue.specs.Rules.{modulus, leastResidue}
-use Rattle.residue.specs.Laws.Integers.{positive, negative, equal-of-parts, parts-sum, parts-within}
+use Rattle.residue.specs.Laws.Integers.{positive, negative, equal-of-parts, parts-sum, parts-difference, parts-within}
 use Rattle.residue.specs.Laws.Modulus.{modulus-below}
-use Rattle.residue.specs.Laws.Residues.{residue-of-residue, residue-sum}
+use Rattle.residue.specs.Laws.Residues.{residue-of-residue, residue-sum, residue-close}
 use Rattle.ticket.specs.declared.setting.Setting.{Setting}
 use Rattle.ticket.specs.Rules.{reach, lift}
 use Rattle.ticket.specs.Laws.Limits.{Numbers, Fitted, lift-small}
@@ -20,13 +20,28 @@ use Rattle.ticket.specs.Laws.Limits.{Numbers, Fitted, lift-small}
 abbrev pub Lifted : Setting → ℤ → ℕ → Type 0
 Lifted G S x = pos x ≡ S +ℤ pos (lift G)
 
-pub lifted-same : (G : Setting) {y z : ℤ} {a b : ℕ} → Lifted G y a → Lifted G z b → (a ≡ b) ↔ (y ≡ z)
-lifted-same G {y} {z} {a} {b} ya zb = (
-  λ e. let same : y +ℤ pos (lift G) ≡ z +ℤ pos (lift G) = sym ya ∙ ap pos e ∙ zb in
-      equal-of-parts y z
-      (omega (arith, parts-sum y (pos (lift G)), parts-sum z (pos (lift G)), ap positive same, ap negative same)),
-  λ e. ap positive (ya ∙ ap (λ x. x +ℤ pos (lift G)) e ∙ sym zb),
-)
+module _ (p : ℕ) (above : 0 < p) (lift : ℕ) (P C c : ℤ) (close : natAbs (C -ℤ (P +ℤ c)) < p) where
+  abbrev sum : ℤ
+  sum = P +ℤ pos lift
+
+  abbrev claimed : ℤ
+  claimed = C +ℤ pos lift -ℤ c
+
+  -- both by their parts
+  parts : (positive claimed + positive c + negative C ≡ positive C + lift + (negative claimed + negative c))
+      × (positive sum + negative P ≡ positive P + lift + negative sum)
+      × (positive (P +ℤ c) + (negative P + negative c) ≡ positive P + positive c + negative (P +ℤ c))
+  parts = omega (arith, parts-difference (C +ℤ pos lift) c, parts-sum C (pos lift), parts-sum P (pos lift), parts-sum P c)
+
+  pub lifted-decides : {x y : ℕ} → x ≡ leastResidue p sum → y ≡ leastResidue p claimed → (x ≡ y) ↔ (C ≡ P +ℤ c)
+  lifted-decides x-is y-is = (
+    λ e. let apart : claimed -ℤ sum ≡ C -ℤ (P +ℤ c) =
+        equal-of-parts (claimed -ℤ sum) (C -ℤ (P +ℤ c)) (omega (arith, parts, parts-difference claimed sum, parts-difference C (P +ℤ c))) in
+        let same = residue-close p above claimed sum (rw apart close) (sym y-is ∙ sym e ∙ x-is) in
+        equal-of-parts C (P +ℤ c) (omega (arith, parts, ap positive same, ap negative same)),
+    λ e. let same = equal-of-parts sum claimed (omega (arith, parts, ap positive e, ap negative e)) in
+        x-is ∙ ap (leastResidue p) same ∙ sym y-is,
+  )
 
 module _ {G : Setting} (numbers : Numbers G) (fitted : Fitted G) (S : ℤ) (small : natAbs S ≤ reach G) where
   up : S +ℤ pos (lift G) ≡ pos (positive S + lift G - negative S)
