@@ -28,6 +28,7 @@ use Rattle.ticket.specs.declared.Answer.{Answer}
 use Rattle.ticket.specs.Rules.{answer, refusal, Passes}
 use Rattle.ticket.specs.Laws.Answers.{first-past}
 use Rattle.ticket.specs.Laws.First.{first-is, FirstFailure, holds-or-first}
+use Rattle.ticket.specs.Laws.Tests.{reading-not-later}
 use Rattle.ticket.specs.Laws.Scans.{scan-none, scan-is, zeros-or-first}
 use Rattle.ticket.specs.Laws.Refusals.{Refused, passed-reading, passed-or-refused, refused-reading, refused-number, ReadingRow, refused-in-table}
 use Rattle.challenge.specs.Rules.{challengeProducts, caughtProducts, listNumber, WellFormed, balanced, firstRow, accepted, caught, verdict, challengeCheck, Accepted}
@@ -144,7 +145,9 @@ module _ (G : Setting) (t x : List ℕ) where
 
   -- what the number of an answer says of its condition
   condition-of : {a : Answer} → Answered G t x a → (a .number ≡ 0 → Balances G t x) × (a .number ≡ 12 → Caught G t x (a .place) (a .row))
-  condition-of (refused r) = let l = refused-number G t r in (λ e. absurd (omega arith), λ e. absurd (omega arith))
+  condition-of (refused r) =
+      let l = refused-number G t r in
+      (λ e. absurd (omega arith), λ e. absurd (reading-not-later l (omega arith) (omega arith)))
   condition-of (list-length p d) = (λ e. absurd (omega arith), λ e. absurd (omega arith))
   condition-of (list-number p c l h m) = (λ e. absurd (omega arith), λ e. absurd (omega arith))
   condition-of (first-unbalanced c) = (λ e. absurd (omega arith), λ e. c)

@@ -29,16 +29,16 @@ use lib.Pow.{pow-add}
 use Rattle.residue.specs.Rules.{modulus, leastResidue}
 use Rattle.residue.specs.Laws.Modulus.{modulus-prime, modulus-positive}
 use Rattle.residue.specs.Laws.Counting.{Exactly, Different, at-most-below, at-most-members, exactly-below, exactly-through, exactly-members}
-use Rattle.algebra.specs.Rules.{sumℤ, matrixProduct}
+use Rattle.algebra.specs.Rules.{sumℤ}
 use Rattle.algebra.specs.Laws.IntegerSums.{sumℤ-cong}
-use Rattle.algebra.specs.Laws.MatrixProducts.{product-through, row-balances}
+use Rattle.algebra.specs.Laws.MatrixProducts.{sum-through, row-balances}
 use Rattle.algebra.specs.Laws.Positions.{by-rows}
 use Rattle.algebra.specs.Laws.Drawn.{Drawn, drawn-any, drawn-exactly, drawn-with-zero}
 use Rattle.algebra.specs.Laws.Soundness.{Passing, Wrong, wrong-of-small, one-column, passing-count}
 use Rattle.ticket.specs.declared.setting.Setting.{Setting}
-use Rattle.ticket.specs.Rules.{Passes, claim, due, entryA, entryB, FalseIn}
+use Rattle.ticket.specs.Rules.{Passes, claim, due, entryA, entryB, entryBias, FalseIn}
 use Rattle.ticket.specs.Laws.Passes.{passed-of}
-use Rattle.ticket.specs.Laws.Differences.{due-is, exactSum-is, claims-close, claims-true, ticket-decided}
+use Rattle.ticket.specs.Laws.Differences.{biasedSum-is, claims-close, claims-true, ticket-decided}
 use Rattle.challenge.specs.Rules.{challengeAt, WellFormed, productB, claimSide, operandSide, balanced, Accepted, DifferIn}
 use Rattle.challenge.specs.Laws.Lists.{well-formed-is}
 use Rattle.soundness.specs.Laws.Answers.{AllBalanced, accepted-exactly, accepted-number}
@@ -58,11 +58,9 @@ pub operand-side : (G : Setting) (t x : List ℕ) (τ i : ℕ)
     → operandSide G t x τ i ≡ leastResidue modulus (sumℤ (G .columns) (λ j. due G t i j *ℤ pos (challengeAt G x τ j)))
 unfolding operandSide productB
 operand-side G t x τ i =
-    product-through modulus modulus-positive (G .inner) (G .columns) (entryA G t) (entryB G t) i (challengeAt G x τ)
-    ∙ ap (leastResidue modulus) (sumℤ-cong (G .columns) _ _ (λ j l. ap (λ s. s *ℤ pos (challengeAt G x τ j)) (sym (sum-is j))))
-  where
-    sum-is : (j : ℕ) → due G t i j ≡ matrixProduct (G .inner) (entryA G t) (entryB G t) i j
-    sum-is j = due-is G t i j ∙ exactSum-is G (entryA G t) (entryB G t) i j
+    sum-through modulus modulus-positive (G .inner) (G .columns) (entryA G t) (entryB G t) (entryBias G t) i (challengeAt G x τ)
+    ∙ ap (leastResidue modulus) (sumℤ-cong (G .columns) _ _ (λ j l.
+    ap (λ s. s *ℤ pos (challengeAt G x τ j)) (sym (biasedSum-is G (entryA G t) (entryB G t) (entryBias G t) i j))))
 
 pub balanced-is : (G : Setting) (t x : List ℕ) (τ i : ℕ) → (balanced G t x τ i ≡ true)
     ↔ (leastResidue modulus (sumℤ (G .columns) (λ j. difference G t i j *ℤ pos (challengeAt G x τ j))) ≡ 0)

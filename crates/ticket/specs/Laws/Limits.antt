@@ -7,7 +7,7 @@
 --   Fitted G               the setting fits, as inequalities
 --   sizes-of, numbers-of   the first two, from their tests
 --   Within G, limits-of    all three, from the tests of the setting
---   setting-numbered       the number of none of the tests is 0
+--   setting-numbered       the numbers of the tests
 --   SettingRow G c, setting-in-table   c is a number of the published table for a setting, and so is that of a test that fails
 --   setting-holds          they all hold, where the number of the setting is 0
 --   with-bias, without-bias   bound and columns of the bias, where there is one and where there is none
@@ -27,7 +27,7 @@ use native.Mathlib.Nat.{le-trans, mul-le-mul, pow-suc, min-eq-left, min-le-right
 use native.Mathlib.Omega.{arith}
 use mathlib.Core.Path.{_≡_, refl, sym, ap, _∙_}
 use mathlib.Core.Bool.{Bool, true, false, true≢false, _&&_, and-eq-true-iff}
-use mathlib.Core.Logic.{⊎-elim}
+use mathlib.Core.Logic.{inl, inr, ⊎-elim}
 use borrow.Author.Tests.{leb-true, ltb-true, le-leb}
 use lib.Dec.{leb}
 use lib.Pow.{pow-mono}
@@ -134,7 +134,8 @@ limits-of G h =
 
 pub setting-numbered : (G : Setting) → Numbered (settingTests G)
 unfolding settingTests Numbered
-setting-numbered G = (omega arith, (omega arith, (omega arith, (omega arith, tt))))
+setting-numbered G =
+    ((omega arith, inl (omega arith)), ((omega arith, inl (omega arith)), ((omega arith, inr (omega arith)), ((omega arith, inl (omega arith)), tt))))
 
 pub setting-holds : (G : Setting) → settingNumber G ≡ 0 → AllHold (settingTests G)
 setting-holds G e = tests-hold (settingTests G) (setting-numbered G) e

@@ -3,13 +3,13 @@
 --   PassedTo G t k         the setting and the length pass, and every record before k does
 --   Refused G t c k        the condition of the number c with the place k, no earlier test failing: the first test of the setting that
 --                          fails, the length, or the first test that fails of the first record that does not pass
---   record-numbered        the number of none of a record's tests is 0
+--   record-numbered        the numbers of a record's tests
 --   records-read           where setting and length pass, reading is that of the records
 --   passed-reading         where all tests pass, reading answers 0
 --   refused-reading        where the condition of a number holds, reading answers that number
 --   wrong-length           reading of a ticket of another length
 --   passed-or-refused      one of the two is so
---   refused-number         the number of a refusal is not 0
+--   refused-number         the number of a refusal
 --   reading-zero-exactly   reading answers 0 exactly when all tests pass
 --   refusal-exactly        reading refuses with a number and a place exactly under their condition
 --   ReadingRow G a         the answer a is a row of the published table for these tests, within its bounds
@@ -25,7 +25,7 @@ use lib.ListN.{length}
 use Rattle.ticket.specs.declared.setting.Setting.{Setting}
 use Rattle.ticket.specs.declared.Answer.{Answer}
 use Rattle.ticket.specs.Rules.{refusal, settingTests, settingNumber, parts, part, partSize, start, records, ticketLength, recordTests, recordNumber, firstRefusal, after, recordsReading, reading}
-use Rattle.ticket.specs.Laws.Tests.{AllHold, Failed, Numbered, here, later, hold-or-failed, holding-number, failed-number, failed-positive, tests-hold}
+use Rattle.ticket.specs.Laws.Tests.{AllHold, Failed, Numbered, here, later, hold-or-failed, holding-number, failed-number, ReadingNumber, failed-numbered, tests-hold}
 use Rattle.ticket.specs.Laws.Limits.{setting-numbered, SettingRow, setting-in-table}
 use Rattle.ticket.specs.Laws.Layout.{each-part, located-at, locatedTests, tests-located}
 use Rattle.ticket.specs.Laws.Scans.{refusal-none, refusal-is, zeros-or-first, after-passed, after-refused}
@@ -40,23 +40,24 @@ pub data Refused (G : Setting) (t : List ℕ) : ℕ → ℕ → Type 0 where
   by-length : AllHold (settingTests G) → (length t ≡ ticketLength G → ⊥) → Refused G t 4 0
   by-record : {c k : ℕ} → PassedTo G t k → k < records G → Failed (recordTests G t k) c → Refused G t c k
 
-outside-numbered : (G : Setting) {w : ℕ} → w < length (parts G) → 1 ≤ part G w .outside
+outside-numbered : (G : Setting) {w : ℕ} → w < length (parts G) → ReadingNumber (part G w .outside)
 unfolding parts part
 outside-numbered G {w} m =
-    each-part G (λ w. 1 ≤ part G w .outside) (omega arith) (omega arith) (omega arith) (omega arith) (omega arith) w m
+    each-part G (λ w. ReadingNumber (part G w .outside)) (omega arith, inl (omega arith)) (omega arith, inl (omega arith))
+    (omega arith, inr (omega arith)) (omega arith, inl (omega arith)) (omega arith, inl (omega arith)) w m
 
 pub record-numbered : (G : Setting) (t : List ℕ) {k : ℕ} → k < records G → Numbered (recordTests G t k)
 unfolding Numbered
 record-numbered G t {k} l =
     let at = located-at G k l in
     let outside = outside-numbered G (at .1 .within) in
-    rw (tests-located t (at .2)) (omega arith, (omega arith, (omega arith, tt)))
+    rw (tests-located t (at .2)) ((omega arith, inl (omega arith)), ((omega arith, inl (omega arith)), (outside, tt)))
 
 module _ (G : Setting) (t : List ℕ) where
-  pub refused-number : {c k : ℕ} → Refused G t c k → 1 ≤ c
-  refused-number (by-setting f) = failed-positive (settingTests G) (setting-numbered G) f
-  refused-number (by-length s d) = omega arith
-  refused-number (by-record {k = k} p l f) = failed-positive (recordTests G t k) (record-numbered G t l) f
+  pub refused-number : {c k : ℕ} → Refused G t c k → ReadingNumber c
+  refused-number (by-setting f) = failed-numbered (settingTests G) (setting-numbered G) f
+  refused-number (by-length s d) = (omega arith, inl (omega arith))
+  refused-number (by-record {k = k} p l f) = failed-numbered (recordTests G t k) (record-numbered G t l) f
 
   setting-passed : AllHold (settingTests G) → reading G t ≡ recordsReading G t
   unfolding reading
@@ -74,14 +75,14 @@ module _ (G : Setting) (t : List ℕ) where
   refused-reading (by-setting f) =
       let number : settingNumber G ≡ _ = failed-number f in
       after-refused (refusal (settingNumber G) 0) (recordsReading G t)
-      (λ z. omega (arith, failed-positive (settingTests G) (setting-numbered G) f))
+      (λ z. omega (arith, failed-numbered (settingTests G) (setting-numbered G) f))
       ∙ ap (λ c. refusal c 0) number
   refused-reading (by-length s d) = setting-passed s ∙ rw (ne-eqb (length t) (ticketLength G) d)
   refused-reading (by-record {c} {k} p l f) =
       let number : recordNumber G t k ≡ c = failed-number f in
       records-read (p .setting) (p .long)
       ∙ refusal-is 0 (records G) k (recordNumber G t) l (λ i m. holding-number (p .before i m))
-      (λ z. omega (arith, failed-positive (recordTests G t k) (record-numbered G t l) f))
+      (λ z. omega (arith, failed-numbered (recordTests G t k) (record-numbered G t l) f))
       ∙ ap (λ c. refusal c (0 + k)) number ∙ ap (refusal c) (omega arith)
 
   pub wrong-length : (length t ≡ ticketLength G → ⊥) → reading G t ≡ after (refusal (settingNumber G) 0) (refusal 4 0)

@@ -5,8 +5,10 @@
 --   hold-or-failed     one of the two is so
 --   holding-number     where all hold, the number is 0
 --   failed-number      else it is that of the first that fails
---   Numbered l         the number of no test is 0
---   failed-positive    nor is then that of the first that fails
+--   ReadingNumber c    c may be the number of a reading or range check: it is not 0, nor that of a later test
+--   reading-not-later  it is none of 10 to 16
+--   Numbered l         the numbers of all tests are such
+--   failed-numbered    so is then that of the first that fails
 --   tests-hold         all hold, where the number is 0 and that of no test is
 --   same-test          two comparisons that say the same are equal
 --   first-holds, rest-hold   the first of several tests that all hold does, and so do the others
@@ -30,9 +32,15 @@ pub data Failed : List Test → ℕ → Type 0 where
   here : {T : Test} {rest : List Test} → T .holds ≡ false → Failed (T ∷ rest) (T .number)
   later : {T : Test} {rest : List Test} {c : ℕ} → T .holds ≡ true → Failed rest c → Failed (T ∷ rest) c
 
+abbrev pub ReadingNumber : ℕ → Type 0
+ReadingNumber c = (1 ≤ c) × ((c ≤ 9) ⊎ (17 ≤ c))
+
+pub reading-not-later : {c : ℕ} → ReadingNumber c → 10 ≤ c → c ≤ 16 → ⊥
+reading-not-later n low high = ⊎-elim (λ l. omega arith) (λ l. omega arith) (n .1)
+
 unfoldable pub Numbered : List Test → Type 0
 Numbered [] = Unit
-Numbered (T ∷ rest) = (1 ≤ T .number) × Numbered rest
+Numbered (T ∷ rest) = ReadingNumber (T .number) × Numbered rest
 
 pub first-holds : {T : Test} {rest : List Test} → AllHold (T ∷ rest) → T .holds ≡ true
 first-holds (one h r) = h
@@ -58,14 +66,14 @@ unfolding firstFailed
 failed-number (here e) = rw e
 failed-number (later h f) = rw h (failed-number f)
 
-pub failed-positive : {c : ℕ} (l : List Test) → Numbered l → Failed l c → 1 ≤ c
+pub failed-numbered : {c : ℕ} (l : List Test) → Numbered l → Failed l c → ReadingNumber c
 unfolding Numbered
-failed-positive (T ∷ rest) numbered (here e) = numbered .0
-failed-positive (T ∷ rest) numbered (later h f) = failed-positive rest (numbered .1) f
+failed-numbered (T ∷ rest) numbered (here e) = numbered .0
+failed-numbered (T ∷ rest) numbered (later h f) = failed-numbered rest (numbered .1) f
 
 pub tests-hold : (l : List Test) → Numbered l → firstFailed l ≡ 0 → AllHold l
 tests-hold l numbered e =
-    ⊎-elim (λ h. h) (λ f. absurd (omega (arith, failed-positive l numbered (f .1), failed-number (f .1)))) (hold-or-failed l)
+    ⊎-elim (λ h. h) (λ f. absurd (omega (arith, failed-numbered l numbered (f .1), failed-number (f .1)))) (hold-or-failed l)
 
 pub same-test : (a b c d : ℕ) → (a ≤ b → c < d) → (c < d → a ≤ b) → leb a b ≡ ltb c d
 same-test a b c d to from =
