@@ -5,6 +5,7 @@ ghost use Rattle.ticket.specs.Rules.{ticketLength};
 ghost use Rattle.writer.specs.Laws.Answers.{Writable};
 ghost use Rattle.writer.specs.Laws.Claims.{Lifting, Claimed};
 ghost use Rattle.writer.specs.Laws.Rows.{ClaimsWrote, RowReady, Room, RowsReady, RowWrote};
+use crate::operands::add_bias;
 use crate::operands::narrow;
 use crate::operands::narrow_columns;
 use crate::records::COLUMN;
@@ -32,26 +33,53 @@ struct Claim {
 }
 
 // The records of all claims.
-pub(crate) fn write_claims(setting: Setting, a: &[i32], b: &[i32], output: &mut [u8])
-    requires { ⌜ Writable setting (now a) (now b) × (ticketLength setting ≤ length (now output)) ⌝ }
-    ensures { λ r. ⌜ ClaimsWrote setting (now (a .entry)) (now (b .entry)) (setting .rows) (now (output .entry)) (now (output .exit)) ⌝ }
+pub(crate) fn write_claims(setting: Setting, a: &[i32], b: &[i32], bias: &[i32], output: &mut [u8])
+    requires { ⌜ Writable setting (now a) (now b) (now bias) × (ticketLength setting ≤ length (now output)) ⌝ }
+    ensures { λ r. ⌜ ClaimsWrote setting (now (a .entry)) (now (b .entry)) (now (bias .entry)) (setting .rows) (now (output .entry)) (now (output .exit)) ⌝ }
 {
     if b.len() <= TINY {
         let mut line = [0; TINY];
         let mut columns = [0; TINY];
         let mut sums = [0; TINY];
-        write_with(setting, a, b, &mut line, &mut columns, &mut sums, output);
+        write_with(
+            setting,
+            a,
+            b,
+            bias,
+            &mut line,
+            &mut columns,
+            &mut sums,
+            output,
+        );
         return;
     }
     let mut line = [0; ROW];
     let mut sums = [0; SUMS];
     if b.len() <= SMALL {
         let mut columns = [0; SMALL];
-        write_with(setting, a, b, &mut line, &mut columns, &mut sums, output);
+        write_with(
+            setting,
+            a,
+            b,
+            bias,
+            &mut line,
+            &mut columns,
+            &mut sums,
+            output,
+        );
         return;
     }
     let mut columns = [0; ENTRIES];
-    write_with(setting, a, b, &mut line, &mut columns, &mut sums, output);
+    write_with(
+        setting,
+        a,
+        b,
+        bias,
+        &mut line,
+        &mut columns,
+        &mut sums,
+        output,
+    );
 }
 
 // The same, with lists that have room for a row of A, for the columns of B and for the sums of a row.
@@ -59,14 +87,15 @@ fn write_with(
     setting: Setting,
     a: &[i32],
     b: &[i32],
+    bias: &[i32],
     line: &mut [i16],
     columns: &mut [i16],
     sums: &mut [u32],
     output: &mut [u8],
 )
-    requires { ⌜ Writable setting (now a) (now b) × (ticketLength setting ≤ length (now output))
+    requires { ⌜ Writable setting (now a) (now b) (now bias) × (ticketLength setting ≤ length (now output))
         × Room setting (length (now line)) (length (now columns)) (length (now sums)) ⌝ }
-    ensures { λ r. ⌜ ClaimsWrote setting (now (a .entry)) (now (b .entry)) (setting .rows) (now (output .entry)) (now (output .exit)) ⌝ }
+    ensures { λ r. ⌜ ClaimsWrote setting (now (a .entry)) (now (b .entry)) (now (bias .entry)) (setting .rows) (now (output .entry)) (now (output .exit)) ⌝ }
 {
     let inner = setting.inner as usize;
     let width = setting.columns as usize;
@@ -74,6 +103,7 @@ fn write_with(
         setting,
         a,
         b,
+        bias,
         &mut line[..inner],
         columns,
         &mut sums[..width],
@@ -86,13 +116,14 @@ fn write_rows(
     setting: Setting,
     a: &[i32],
     b: &[i32],
+    bias: &[i32],
     line: &mut [i16],
     columns: &mut [i16],
     sums: &mut [u32],
     output: &mut [u8],
 )
-    requires { ⌜ RowsReady setting (now a) (now b) (now line) (now columns) (now sums) (now output) ⌝ }
-    ensures { λ r. ⌜ ClaimsWrote setting (now (a .entry)) (now (b .entry)) (setting .rows) (now (output .entry)) (now (output .exit)) ⌝ }
+    requires { ⌜ RowsReady setting (now a) (now b) (now bias) (now line) (now columns) (now sums) (now output) ⌝ }
+    ensures { λ r. ⌜ ClaimsWrote setting (now (a .entry)) (now (b .entry)) (now (bias .entry)) (setting .rows) (now (output .entry)) (now (output .exit)) ⌝ }
 {
     let half = setting.half();
     let lift = setting.lift_of(half) as u32;
@@ -107,6 +138,7 @@ fn write_rows(
         let end = from + line.len();
         narrow(&a[from..end], 1, 0, line);
         exact::row_sums(line, columns, sums);
+        add_bias(bias, (row as usize) * width, sums);
         write_row(
             setting,
             half,

@@ -1,4 +1,4 @@
-// The ticket writer: the one ticket whose claims are true, for two operands.
+// The ticket writer: the one ticket whose claims are true, for two operands and a bias, which is empty where the setting has none.
 ghost use mathlib.Core.Path.{_≡_};
 ghost use mathlib.Core.List.{_++_};
 ghost use Prim.Native.Nat.{_≤_};
@@ -16,9 +16,9 @@ mod records;
 
 // The answer of the writer, for every setting, all operands and every output. Where its number is 0, the output begins with the
 // ticket; otherwise no byte of it is changed.
-pub fn write(setting: Setting, a: &[i32], b: &[i32], output: &mut [u8]) -> Answer
-    ensures { λ r. ⌜ (r ≡ writing setting (now (a .entry)) (now (b .entry)) (length (now (output .entry))))
-        × (now (output .exit) ≡ outputAfter setting (now (a .entry)) (now (b .entry)) (now (output .entry))) ⌝ }
+pub fn write(setting: Setting, a: &[i32], b: &[i32], bias: &[i32], output: &mut [u8]) -> Answer
+    ensures { λ r. ⌜ (r ≡ writing setting (now (a .entry)) (now (b .entry)) (now (bias .entry)) (length (now (output .entry))))
+        × (now (output .exit) ≡ outputAfter setting (now (a .entry)) (now (b .entry)) (now (bias .entry)) (now (output .entry))) ⌝ }
 {
     let number = setting.number();
     if number != 0 {
@@ -29,7 +29,7 @@ pub fn write(setting: Setting, a: &[i32], b: &[i32], output: &mut [u8]) -> Answe
             products: 0,
         };
     }
-    let read = operands::read(setting, a, b);
+    let read = operands::read(setting, a, b, bias);
     if read.number != 0 {
         return read;
     }
@@ -42,7 +42,7 @@ pub fn write(setting: Setting, a: &[i32], b: &[i32], output: &mut [u8]) -> Answe
             products: 0,
         };
     }
-    write_ticket(setting, a, b, output);
+    write_ticket(setting, a, b, bias, output);
     let place = length as u32;
     Answer {
         number: 0,
@@ -54,16 +54,19 @@ pub fn write(setting: Setting, a: &[i32], b: &[i32], output: &mut [u8]) -> Answe
 
 // The ticket, at the beginning of the output. The claims are written first: the records of the operands are then made while the
 // processor still divides.
-fn write_ticket(setting: Setting, a: &[i32], b: &[i32], output: &mut [u8])
-    requires { ⌜ Writable setting (now a) (now b) × (ticketLength setting ≤ length (now output)) ⌝ }
-    ensures { λ r. ⌜ now (output .exit) ≡ ticketOf setting (now (a .entry)) (now (b .entry)) ++ drop (ticketLength setting) (now (output .entry)) ⌝ }
+fn write_ticket(setting: Setting, a: &[i32], b: &[i32], bias: &[i32], output: &mut [u8])
+    requires { ⌜ Writable setting (now a) (now b) (now bias) × (ticketLength setting ≤ length (now output)) ⌝ }
+    ensures { λ r. ⌜ now (output .exit) ≡ ticketOf setting (now (a .entry)) (now (b .entry)) (now (bias .entry)) ++ drop (ticketLength setting) (now (output .entry)) ⌝ }
 {
-    claims::write_claims(setting, a, b, output);
+    claims::write_claims(setting, a, b, bias, output);
     let height = setting.rows as u8;
     let inner = setting.inner as u8;
     let width = setting.columns as usize;
     let of_a = setting.start(PartNumber::A) as usize;
     let of_b = setting.start(PartNumber::B) as usize;
+    let of_bias = setting.start(PartNumber::BIAS) as usize;
     records::write_operand(output, of_a, 1, height, inner as usize, a);
     records::write_operand(output, of_b, 2, inner, width, b);
+    let width = setting.bias_columns() as usize;
+    records::write_operand(output, of_bias, 5, height, width, bias);
 }

@@ -1,23 +1,24 @@
-// The operands: tests 13 and 14, and their entries as 16-bit numbers.
+// The operands and the bias: tests 13, 14 and 18, and their entries as 16-bit numbers, or modulo 2^32.
 ghost use mathlib.Core.Path.{_≡_};
-ghost use Prim.Native.Nat.{_+_, _*_, _<_, _^_};
+ghost use Prim.Native.Nat.{_+_, _*_, _≤_, _<_, _^_};
 ghost use lib.IntN.{pos, natAbs};
 ghost use lib.ListN.{length};
+ghost use Rattle.residue.specs.Rules.{leastResidue};
 ghost use Rattle.algebra.specs.Laws.Fills.{Filled};
 ghost use Rattle.exact.specs.Laws.Matrices.{turnedNumber};
 ghost use Rattle.ticket.specs.Rules.{firstRefusal};
 ghost use Rattle.ticket.specs.Laws.All.{all};
 ghost use Rattle.ticket.specs.Laws.Limits.{Within};
-ghost use Rattle.writer.specs.Rules.{operandNumber, operandsReading};
-ghost use Rattle.writer.specs.Laws.Operands.{withinAt, columnOf, NarrowReady, TurnReady};
+ghost use Rattle.writer.specs.Rules.{beyondNumber, operandsReading};
+ghost use Rattle.writer.specs.Laws.Operands.{withinAt, columnOf, BiasAdded, BiasReady, NarrowReady, TurnReady};
 use ticket::Answer;
 use ticket::PartNumber;
 use ticket::Setting;
 
-// The answer of the tests 13 and 14; its number is 0 where they pass.
-pub(crate) fn read(setting: Setting, a: &[i32], b: &[i32]) -> Answer
+// The answer of the tests 13, 14 and 18; its number is 0 where they pass.
+pub(crate) fn read(setting: Setting, a: &[i32], b: &[i32], bias: &[i32]) -> Answer
     requires { ⌜ Within setting ⌝ }
-    ensures { λ r. ⌜ r ≡ operandsReading setting (now (a .entry)) (now (b .entry)) ⌝ }
+    ensures { λ r. ⌜ r ≡ operandsReading setting (now (a .entry)) (now (b .entry)) (now (bias .entry)) ⌝ }
 {
     let of_a = setting.size(PartNumber::A);
     if a.len() != of_a as usize {
@@ -36,20 +37,36 @@ pub(crate) fn read(setting: Setting, a: &[i32], b: &[i32]) -> Answer
             products: 0,
         };
     }
-    let in_a = first_beyond(setting, a, 0);
+    if bias.len() != setting.size(PartNumber::BIAS) as usize {
+        return Answer {
+            number: 13,
+            place: 2,
+            row: 0,
+            products: 0,
+        };
+    }
+    let in_a = first_beyond(setting.bound, 14, a, 0);
     if in_a.number != 0 {
         return in_a;
     }
-    first_beyond(setting, b, of_a)
+    let in_b = first_beyond(setting.bound, 14, b, of_a);
+    if in_b.number != 0 {
+        return in_b;
+    }
+    first_beyond(
+        setting.largest_bias(),
+        18,
+        bias,
+        setting.start(PartNumber::BIAS),
+    )
 }
 
-// The first entry beyond the bound, its place counted from start; number 0 where there is none. The entries are tested without a
-// branch first; one by one only where some entry is beyond the bound.
-fn first_beyond(setting: Setting, operand: &[i32], start: u32) -> Answer
-    requires { ⌜ start + length (now operand) < 2 ^ 32 ⌝ }
-    ensures { λ r. ⌜ r ≡ firstRefusal start (length (now (operand .entry))) (operandNumber setting (now (operand .entry))) ⌝ }
+// The first entry beyond a bound, which has the given number, its place counted from start; number 0 where there is none. The entries
+// are tested without a branch first; one by one only where some entry is beyond the bound.
+fn first_beyond(bound: u32, number: u32, operand: &[i32], start: u32) -> Answer
+    requires { ⌜ (start + length (now operand) < 2 ^ 32) × (1 ≤ number) ⌝ }
+    ensures { λ r. ⌜ r ≡ firstRefusal start (length (now (operand .entry))) (beyondNumber bound number (now (operand .entry))) ⌝ }
 {
-    let bound = setting.bound;
     if all_within(operand, bound) {
         return Answer::PASSED;
     }
@@ -57,7 +74,7 @@ fn first_beyond(setting: Setting, operand: &[i32], start: u32) -> Answer
     while k < operand.len() {
         if bound < magnitude(operand[k]) {
             return Answer {
-                number: 14,
+                number,
                 place: start + (k as u32),
                 row: 0,
                 products: 0,
@@ -90,6 +107,33 @@ fn magnitude(n: i32) -> u32
         return (0 - wide) as u32;
     }
     wide as u32
+}
+
+// A row of the bias, from entry start on, added to the sums of that row modulo 2^32; nothing is, where there is no bias.
+pub(crate) fn add_bias(bias: &[i32], start: usize, sums: &mut [u32])
+    requires { ⌜ BiasReady (now bias) start (now sums) ⌝ }
+    ensures { λ r. ⌜ BiasAdded (now (bias .entry)) start (now (sums .entry)) (now (sums .exit)) ⌝ }
+{
+    if bias.len() == 0 {
+        return;
+    }
+    let mut j = 0;
+    while j < sums.len() {
+        let entry = low_word(bias[start + j]);
+        sums[j] = std::num::wrapping_add_u32(sums[j], entry);
+        j += 1;
+    }
+}
+
+// A number modulo 2^32.
+fn low_word(n: i32) -> u32
+    ensures { λ r. ⌜ r ≡ leastResidue (2 ^ 32) n ⌝ }
+{
+    let size = magnitude(n);
+    if n < 0 {
+        return std::num::wrapping_sub_u32(0, size);
+    }
+    size
 }
 
 // All columns of a matrix, one after the other, at the beginning of the list.

@@ -79,7 +79,7 @@ fn put(bytes: &mut [u8], header: u32, value: u32)
 
 // The least residue of a small entry.
 fn residue(entry: Entry) -> Residue
-    requires { ⌜ natAbs (entry .0) < 2 ^ 15 ⌝ }
+    requires { ⌜ natAbs (entry .0) < 2 ^ 30 ⌝ }
     ensures { λ r. ⌜ r .0 ≡ leastResidue modulus (entry .0) ⌝ }
 {
     let n = entry.0;

@@ -34,9 +34,9 @@ pub data WriterRow (G : Setting) : Answer → Type 0 where
   operand-row : (k : ℕ) → k < G .rows * G .inner + G .inner * G .columns → WriterRow G (answer 14 k 0 0)
   output-length-row : WriterRow G (answer 15 0 0 0)
 
-module _ (G : Setting) (A B : List ℤ) where
+module _ (G : Setting) (A B C : List ℤ) where
   module _ (size : ℕ) where
-    answered-operands : AllHold (settingTests G) → (a : Answer) × WriterAnswered G A B size a
+    answered-operands : AllHold (settingTests G) → (a : Answer) × WriterAnswered G A B C size a
     answered-operands s =
         elim (ℕ-discrete (length A) (partSize (part G ofA))) [
           | no d ↦ (refusal 13 0, length-A-wrong s d)
@@ -45,7 +45,7 @@ module _ (G : Setting) (A B : List ℤ) where
                 | no d ↦ (refusal 13 1, length-B-wrong s e d)
                 | yes f ↦
                     ⊎-elim
-                    (λ z. let w : Writable G A B = writable G A B s e f (λ k l. within-of G (A ++ B) k (z k l)) in
+                    (λ z. let w : Writable G A B C = writable G A B C s e f (λ k l. within-of G (A ++ B) k (z k l)) in
                     elim (decLe (ticketLength G) size) [
                       | yes l ↦ (written G, ticket-written w l)
                       | no l ↦ (refusal 15 0, output-short w (omega arith))
@@ -59,17 +59,17 @@ module _ (G : Setting) (A B : List ℤ) where
               ]
         ]
 
-    pub writing-answered : (a : Answer) × WriterAnswered G A B size a
+    pub writing-answered : (a : Answer) × WriterAnswered G A B C size a
     writing-answered = ⊎-elim answered-operands (λ f. (refusal (f .0) 0, setting-failed (f .1))) (hold-or-failed (settingTests G))
 
-    pub writing-exactly : (a : Answer) → (writing G A B size ≡ a) ↔ WriterAnswered G A B size a
+    pub writing-exactly : (a : Answer) → (writing G A B C size ≡ a) ↔ WriterAnswered G A B C size a
     writing-exactly a = (
-      λ e. let same : writing-answered .0 ≡ a = sym (writing-of G A B size (writing-answered .1)) ∙ e in
+      λ e. let same : writing-answered .0 ≡ a = sym (writing-of G A B C size (writing-answered .1)) ∙ e in
           rw same at (writing-answered .1),
-      writing-of G A B size,
+      writing-of G A B C size,
     )
 
-    row-of : {a : Answer} → WriterAnswered G A B size a → WriterRow G a
+    row-of : {a : Answer} → WriterAnswered G A B C size a → WriterRow G a
     row-of (setting-failed {c} f) = let n = failed-within (settingTests G) (setting-numbered G) f in setting-row c (n .0) (n .1)
     row-of (length-A-wrong s d) = operand-length-row 0 (omega arith)
     row-of (length-B-wrong s e d) = operand-length-row 1 (omega arith)
@@ -77,10 +77,10 @@ module _ (G : Setting) (A B : List ℤ) where
     row-of (output-short w l) = output-length-row
     row-of (ticket-written w l) = written-row
 
-    pub writing-in-table : WriterRow G (writing G A B size)
-    writing-in-table = row-of (writing-exactly (writing G A B size) .0 refl)
+    pub writing-in-table : WriterRow G (writing G A B C size)
+    writing-in-table = row-of (writing-exactly (writing G A B C size) .0 refl)
 
-    written-of : {a : Answer} → WriterAnswered G A B size a → a .number ≡ 0 → Writable G A B × (ticketLength G ≤ size)
+    written-of : {a : Answer} → WriterAnswered G A B C size a → a .number ≡ 0 → Writable G A B C × (ticketLength G ≤ size)
     written-of (setting-failed f) z = absurd (omega (arith, failed-within (settingTests G) (setting-numbered G) f))
     written-of (length-A-wrong s d) z = absurd (omega arith)
     written-of (length-B-wrong s e d) z = absurd (omega arith)
@@ -88,17 +88,17 @@ module _ (G : Setting) (A B : List ℤ) where
     written-of (output-short w l) z = absurd (omega arith)
     written-of (ticket-written w l) z = (w, l)
 
-    pub writable-of : writing G A B size .number ≡ 0 → Writable G A B
-    writable-of e = written-of (writing-exactly (writing G A B size) .0 refl) e .0
+    pub writable-of : writing G A B C size .number ≡ 0 → Writable G A B C
+    writable-of e = written-of (writing-exactly (writing G A B C size) .0 refl) e .0
 
-    pub output-long : writing G A B size .number ≡ 0 → ticketLength G ≤ size
-    output-long e = written-of (writing-exactly (writing G A B size) .0 refl) e .1
+    pub output-long : writing G A B C size .number ≡ 0 → ticketLength G ≤ size
+    output-long e = written-of (writing-exactly (writing G A B C size) .0 refl) e .1
 
-  pub length-output : (o : List ℕ) → length (outputAfter G A B o) ≡ length o
+  pub length-output : (o : List ℕ) → length (outputAfter G A B C o) ≡ length o
   length-output o =
-      elim (ℕ-discrete (writing G A B (length o) .number) 0) [
-        | no d ↦ ap length (output-refused G A B o d)
+      elim (ℕ-discrete (writing G A B C (length o) .number) 0) [
+        | no d ↦ ap length (output-refused G A B C o d)
         | yes e ↦
-            ap length (output-written G A B o e)
+            ap length (output-written G A B C o e)
             ∙ simp (length-append, length-drop, length-ticketOf) (omega (arith, output-long (length o) e))
       ]

@@ -80,22 +80,22 @@ same-sums : (G : Setting) (A A' B B' : ℕ → ℕ → ℤ) (i j : ℕ) → ((k 
 same-sums G A A' B B' i j row column =
     exactSum-is G A B i j ∙ matrixProduct-cong (G .inner) A A' B B' i j row column ∙ sym (exactSum-is G A' B' i j)
 
-module _ {G : Setting} {A B : List ℤ} (w : Writable G A B) where
+module _ {G : Setting} {A B C : List ℤ} (w : Writable G A B C) where
   module _ (i j : ℕ) (l : i < G .rows) (m : j < G .columns) where
-    pub size-quotientOf : let q = quotientOf G A B i j in (negative q ≤ positive q + halfRange G) × (positive q < halfRange G + negative q)
+    pub size-quotientOf : let q = quotientOf G A B C i j in (negative q ≤ positive q + halfRange G) × (positive q < halfRange G + negative q)
     unfolding quotientOf
     size-quotientOf =
-        let h = floor-left (sumFor G A B i j) (G .scale) (omega (arith, limits w .numbers .scale)) in
+        let h = floor-left (sumFor G A B C i j) (G .scale) (omega (arith, limits w .numbers .scale)) in
         quotient-within (G .scale) (halfRange G) (reach G) (limits w .numbers .scale .0) (limits w .fitted .sums) _
-        (quotientOf G A B i j) (h .0) (size-sumFor w i j l m) (h .1) (h .2)
+        (quotientOf G A B C i j) (h .0) (size-sumFor w i j l m) (h .1) (h .2)
 
-    left : (r : ℕ) × (r < G .scale) × (remainderOf G A B i j ≡ pos r)
-    left = remainder-left G A B i j (omega (arith, limits w .numbers .scale))
+    left : (r : ℕ) × (r < G .scale) × (remainderOf G A B C i j ≡ pos r)
+    left = remainder-left G A B C i j (omega (arith, limits w .numbers .scale))
 
     -- shifted by half of the quotients' range
-    shifted-is : let q = quotientOf G A B i j in (leastResidue modulus q + halfRange G) % modulus ≡ positive q + halfRange G - negative q
+    shifted-is : let q = quotientOf G A B C i j in (leastResidue modulus q + halfRange G) % modulus ≡ positive q + halfRange G - negative q
     shifted-is =
-        let q = quotientOf G A B i j in
+        let q = quotientOf G A B C i j in
         let half = halfRange G in
         let m = positive q + half - negative q in
         let room : 2 * half < modulus = omega (arith, half-small {G = G} (limits w .numbers), modulus-above) in
@@ -112,60 +112,60 @@ module _ {G : Setting} {A B : List ℤ} (w : Writable G A B) where
   entry-range z l = rw (entry-of-residue modulus modulus-positive z (omega (arith, small))) (le-leb (natAbs z) (G .bound) l)
 
   pub in-range : (n i j : ℕ) → n < length (parts G) → i < part G n .rows → j < part G n .columns
-      → part G n .range (leastResidue modulus (integerIn G A B n i j)) ≡ true
+      → part G n .range (leastResidue modulus (integerIn G A B C n i j)) ≡ true
   unfolding integersOf integerIn
   in-range =
-      every-part G (λ n i j. part G n .range (leastResidue modulus (integerIn G A B n i j)) ≡ true)
+      every-part G (λ n i j. part G n .range (leastResidue modulus (integerIn G A B C n i j)) ≡ true)
       (λ i j l m. range-A G _ ∙ entry-range _ (size-A w i j l m)) (λ i j l m. range-B G _ ∙ entry-range _ (size-B w i j l m))
-      (λ i j l m. let q = quotientOf G A B i j in
+      (λ i j l m. let q = quotientOf G A B C i j in
       range-quotients G _ ∙ rw (shifted-is i j l m)
       (lt-ltb (positive q + halfRange G - negative q) _ (omega (arith, size-quotientOf i j l m, half-double {G = G} (limits w .numbers)))))
       (λ i j l m. let h = left i j l m in
       let kept = residue-of-residue modulus modulus-positive (h .0) (omega (arith, h .1, limits w .numbers .scale, modulus-above)) in
       range-remainders G _ ∙ rw (h .2, kept) (lt-ltb _ _ (h .1)))
 
-  passed : Passed G (ticketOf G A B)
+  passed : Passed G (ticketOf G A B C)
   passed =
       record {
         setting = w .setting;
         counts = counts (limits w .sizes);
         numbers = limits w .numbers;
         fitted = limits w .fitted;
-        long = length-ticketOf G A B;
+        long = length-ticketOf G A B C;
         each = λ k l.
             let at = located-at G k l in
-            rw (tests-located (ticketOf G A B) (at .2), ticket-value G A B (at .2) l)
-            (one (ticket-formed G A B (at .2) l) (one (lt-ltb _ _ (residue-below modulus modulus-positive _))
+            rw (tests-located (ticketOf G A B C) (at .2), ticket-value G A B C (at .2) l)
+            (one (ticket-formed G A B C (at .2) l) (one (lt-ltb _ _ (residue-below modulus modulus-positive _))
             (one (in-range (at .0) _ _ (at .1 .within) (at .2 .row-within) (at .2 .column-within)) none)));
       }
 
-  pub ticket-passes : Passes G (ticketOf G A B)
-  ticket-passes = passes-of G (ticketOf G A B) passed
+  pub ticket-passes : Passes G (ticketOf G A B C)
+  ticket-passes = passes-of G (ticketOf G A B C) passed
 
   -- what the records stand for
 
-  pub written-A : (i k : ℕ) → i < G .rows → k < G .inner → entryA G (ticketOf G A B) i k ≡ entryOf (G .inner) A i k
+  pub written-A : (i k : ℕ) → i < G .rows → k < G .inner → entryA G (ticketOf G A B C) i k ≡ entryOf (G .inner) A i k
   unfolding integersOf integerIn
   written-A i k l m =
       equal-small (G .bound) (size-entryA passed i k l m) (size-A w i k l m) small
-      (residue-entryA passed i k l m ∙ value-in-ticket G A B ofA i k (rw (part-A G .rows-are) l) (rw (part-A G .columns-are) m))
+      (residue-entryA passed i k l m ∙ value-in-ticket G A B C ofA i k (rw (part-A G .rows-are) l) (rw (part-A G .columns-are) m))
 
-  pub written-B : (k j : ℕ) → k < G .inner → j < G .columns → entryB G (ticketOf G A B) k j ≡ entryOf (G .columns) B k j
+  pub written-B : (k j : ℕ) → k < G .inner → j < G .columns → entryB G (ticketOf G A B C) k j ≡ entryOf (G .columns) B k j
   unfolding integersOf integerIn
   written-B k j l m =
       equal-small (G .bound) (size-entryB passed k j l m) (size-B w k j l m) small
-      (residue-entryB passed k j l m ∙ value-in-ticket G A B ofB k j (rw (part-B G .rows-are) l) (rw (part-B G .columns-are) m))
+      (residue-entryB passed k j l m ∙ value-in-ticket G A B C ofB k j (rw (part-B G .rows-are) l) (rw (part-B G .columns-are) m))
 
   module _ (i j : ℕ) (l : i < G .rows) (m : j < G .columns) where
-    pub written-quotient : quotient G (ticketOf G A B) i j ≡ quotientOf G A B i j
+    pub written-quotient : quotient G (ticketOf G A B C) i j ≡ quotientOf G A B C i j
     unfolding integersOf integerIn
     written-quotient =
         let is = part-quotients G in
-        equal-small (halfRange G) (size-quotient passed i j l m) (size-of-parts (quotientOf G A B i j) (size-quotientOf i j l m))
+        equal-small (halfRange G) (size-quotient passed i j l m) (size-of-parts (quotientOf G A B C i j) (size-quotientOf i j l m))
         (omega (arith, half-small {G = G} (limits w .numbers), modulus-above))
-        (residue-quotient passed i j l m ∙ value-in-ticket G A B ofQuotients i j (rw (is .rows-are) l) (rw (is .columns-are) m))
+        (residue-quotient passed i j l m ∙ value-in-ticket G A B C ofQuotients i j (rw (is .rows-are) l) (rw (is .columns-are) m))
 
-    pub written-remainder : remainder G (ticketOf G A B) i j ≡ remainderOf G A B i j
+    pub written-remainder : remainder G (ticketOf G A B C) i j ≡ remainderOf G A B C i j
     unfolding integersOf integerIn
     written-remainder =
         let is = part-remainders G in
@@ -173,50 +173,50 @@ module _ {G : Setting} {A B : List ℤ} (w : Writable G A B) where
         let k = left i j l m in
         equal-small (G .scale) (rw (h .2) (omega (arith, h .1))) (rw (k .2) (omega (arith, k .1)))
         (omega (arith, limits w .numbers .scale, modulus-above))
-        (residue-remainder passed i j l m ∙ value-in-ticket G A B ofRemainders i j (rw (is .rows-are) l) (rw (is .columns-are) m))
+        (residue-remainder passed i j l m ∙ value-in-ticket G A B C ofRemainders i j (rw (is .rows-are) l) (rw (is .columns-are) m))
 
-    pub written-sum : due G (ticketOf G A B) i j ≡ sumFor G A B i j
+    pub written-sum : due G (ticketOf G A B C) i j ≡ sumFor G A B C i j
     written-sum =
-        due-is G (ticketOf G A B) i j ∙ same-sums G _ _ _ _ i j (λ k h. written-A i k l h) (λ k h. written-B k j h m)
+        due-is G (ticketOf G A B C) i j ∙ same-sums G _ _ _ _ i j (λ k h. written-A i k l h) (λ k h. written-B k j h m)
 
-  pub written-true : (j : ℕ) → FalseIn G (ticketOf G A B) j → ⊥
+  pub written-true : (j : ℕ) → FalseIn G (ticketOf G A B C) j → ⊥
   written-true j f =
       let i = f .1 .0 in
       let l : i < G .rows = f .1 .1 in
       f .1 .2
-      (claim-is G (ticketOf G A B) i j ∙ rw (written-quotient i j l (f .0), written-remainder i j l (f .0)) (claim-sum G A B i j)
+      (claim-is G (ticketOf G A B C) i j ∙ rw (written-quotient i j l (f .0), written-remainder i j l (f .0)) (claim-sum G A B C i j)
       ∙ sym (written-sum i j l (f .0)))
 
-pub written-accepted : (G : Setting) (A B : List ℤ) (size : ℕ) → writing G A B size .number ≡ 0
-    → fullCheck G (ticketOf G A B) ≡ fullAccepted G
-written-accepted G A B size e =
-    let w = writable-of G A B size e in
-    full-accepted-number G (ticketOf G A B) (full-accepted-true G (ticketOf G A B) .1 (ticket-passes w, written-true w))
+pub written-accepted : (G : Setting) (A B C : List ℤ) (size : ℕ) → writing G A B C size .number ≡ 0
+    → fullCheck G (ticketOf G A B C) ≡ fullAccepted G
+written-accepted G A B C size e =
+    let w = writable-of G A B C size e in
+    full-accepted-number G (ticketOf G A B C) (full-accepted-true G (ticketOf G A B C) .1 (ticket-passes w, written-true w))
 
-pub written-challenge-accepted : (G : Setting) (A B : List ℤ) (size : ℕ) → writing G A B size .number ≡ 0
-    → (x : List ℕ) → Accepted G (ticketOf G A B) x ↔ WellFormed G x
-written-challenge-accepted G A B size e =
-    let w = writable-of G A B size e in
-    accepted-exactly-well-formed G (ticketOf G A B) (ticket-passes w) (written-true w)
+pub written-challenge-accepted : (G : Setting) (A B C : List ℤ) (size : ℕ) → writing G A B C size .number ≡ 0
+    → (x : List ℕ) → Accepted G (ticketOf G A B C) x ↔ WellFormed G x
+written-challenge-accepted G A B C size e =
+    let w = writable-of G A B C size e in
+    accepted-exactly-well-formed G (ticketOf G A B C) (ticket-passes w) (written-true w)
 
 -- a ticket of bytes that the full check accepts and that has the same A and B
-module _ (G : Setting) (A B : List ℤ) (t : List ℕ) (bytes : (k : ℕ) → getD t k 0 < 256)
+module _ (G : Setting) (A B C : List ℤ) (t : List ℕ) (bytes : (k : ℕ) → getD t k 0 < 256)
     (passed : Passed G t) (none : (j : ℕ) → FalseIn G t j → ⊥)
     (same-A : (i k : ℕ) → i < G .rows → k < G .inner → entryA G t i k ≡ entryOf (G .inner) A i k)
     (same-B : (k j : ℕ) → k < G .inner → j < G .columns → entryB G t k j ≡ entryOf (G .columns) B k j) where
   module _ (i j : ℕ) (l : i < G .rows) (m : j < G .columns) where
-    same-sum : pos (G .scale) *ℤ quotient G t i j +ℤ remainder G t i j ≡ sumFor G A B i j
+    same-sum : pos (G .scale) *ℤ quotient G t i j +ℤ remainder G t i j ≡ sumFor G A B C i j
     same-sum =
         sym (claim-is G t i j) ∙ claims-true G t none i j l m ∙ due-is G t i j
         ∙ same-sums G _ _ _ _ i j (λ k h. same-A i k l h) (λ k h. same-B k j h m)
 
-    same-quotient : quotient G t i j ≡ quotientOf G A B i j
+    same-quotient : quotient G t i j ≡ quotientOf G A B C i j
     unfolding quotientOf
     same-quotient =
         let h = small-remainder passed i j l m in
-        floor-unique (sumFor G A B i j) (quotient G t i j) (G .scale) (h .0) (h .1) (rw (h .2) at same-sum)
+        floor-unique (sumFor G A B C i j) (quotient G t i j) (G .scale) (h .0) (h .1) (rw (h .2) at same-sum)
 
-    same-remainder : remainder G t i j ≡ remainderOf G A B i j
+    same-remainder : remainder G t i j ≡ remainderOf G A B C i j
     unfolding remainderOf
     same-remainder =
         let product = pos (G .scale) *ℤ quotient G t i j in
@@ -224,34 +224,34 @@ module _ (G : Setting) (A B : List ℤ) (t : List ℕ) (bytes : (k : ℕ) → ge
         (sym (ap (λ z. z -ℤ product) (+ℤ-comm product (remainder G t i j)) ∙ +ℤ-negℤ-cancel (remainder G t i j) product))
 
   same-value : (n i j : ℕ) → n < length (parts G) → i < part G n .rows → j < part G n .columns
-      → valueIn G t n i j ≡ leastResidue modulus (integerIn G A B n i j)
+      → valueIn G t n i j ≡ leastResidue modulus (integerIn G A B C n i j)
   unfolding integersOf integerIn
   same-value =
-      every-part G (λ n i j. valueIn G t n i j ≡ leastResidue modulus (integerIn G A B n i j))
+      every-part G (λ n i j. valueIn G t n i j ≡ leastResidue modulus (integerIn G A B C n i j))
       (λ i j l m. sym (residue-entryA passed i j l m) ∙ ap (leastResidue modulus) (same-A i j l m))
       (λ i j l m. sym (residue-entryB passed i j l m) ∙ ap (leastResidue modulus) (same-B i j l m))
       (λ i j l m. sym (residue-quotient passed i j l m) ∙ ap (leastResidue modulus) (same-quotient i j l m))
       (λ i j l m. sym (residue-remainder passed i j l m) ∙ ap (leastResidue modulus) (same-remainder i j l m))
 
   -- byte by byte, the two tickets have the same records
-  same-byte : (k byte : ℕ) → k < records G → byte < recordBytes → byteAt t k byte ≡ byteAt (ticketOf G A B) k byte
+  same-byte : (k byte : ℕ) → k < records G → byte < recordBytes → byteAt t k byte ≡ byteAt (ticketOf G A B C) k byte
   same-byte k byte l m =
       let at = located-at G k l in
       let value =
       ap (valueAt t) (at .2 .place) ∙ sym (value-in G t _ _ _) ∙ same-value _ _ _ (at .1 .within) (at .2 .row-within) (at .2 .column-within) in
       (rw value at (record-read t k _ _ _ bytes (record-formed passed l (at .2)) .is .byte byte m))
-      ∙ sym (ticket-record-at G A B (at .2) l .is .byte byte m)
+      ∙ sym (ticket-record-at G A B C (at .2) l .is .byte byte m)
 
-  same-ticket : t ≡ ticketOf G A B
+  same-ticket : t ≡ ticketOf G A B C
   same-ticket =
-      ext-getD 0 t (ticketOf G A B) (passed .long ∙ sym (length-ticketOf G A B))
+      ext-getD 0 t (ticketOf G A B C) (passed .long ∙ sym (length-ticketOf G A B C))
       (λ i l. let place : recordBytes * (i / recordBytes) + i % recordBytes ≡ i = div-add-mod i recordBytes in
       rw place at (same-byte (i / recordBytes) (i % recordBytes) (omega (arith, passed .long, length-records G)) (mod-lt i (omega arith))))
 
-pub only-ticket : (G : Setting) (A B : List ℤ) (t : List ℕ) → ((k : ℕ) → getD t k 0 < 256) → FullAccepted G t
+pub only-ticket : (G : Setting) (A B C : List ℤ) (t : List ℕ) → ((k : ℕ) → getD t k 0 < 256) → FullAccepted G t
     → ((i k : ℕ) → i < G .rows → k < G .inner → entryA G t i k ≡ entryOf (G .inner) A i k)
     → ((k j : ℕ) → k < G .inner → j < G .columns → entryB G t k j ≡ entryOf (G .columns) B k j)
-    → t ≡ ticketOf G A B
-only-ticket G A B t bytes accepted same-A same-B =
+    → t ≡ ticketOf G A B C
+only-ticket G A B C t bytes accepted same-A same-B =
     let h = full-accepted-true G t .0 accepted in
-    same-ticket G A B t bytes (passed-of G t (h .0)) (h .1) same-A same-B
+    same-ticket G A B C t bytes (passed-of G t (h .0)) (h .1) same-A same-B

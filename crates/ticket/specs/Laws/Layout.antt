@@ -7,7 +7,7 @@
 --   size-claims           the size of a part of claims
 --   size-past, start-past past the last part there are no records, and all come before
 --   length-is             how many bytes a ticket has
---   longestTicket, length-most   the most bytes that a ticket without a bias, within the limits, has
+--   longestTicket, length-most   the most bytes that a ticket without a bias has within the limits, and that every ticket has
 --   start-of-B            the part that holds B starts at byte 8 · rows · inner
 --   partBytes G t w       the bytes of part w
 --   bytes-cut             they are cut from the ticket, each end as far as the ticket goes
@@ -167,8 +167,8 @@ start-of-B G = ap (λ n. 8 * n) (parts-are G .start-B)
 abbrev pub longestTicket : ℕ
 longestTicket = recordBytes * (mostRows * mostInner + mostInner * mostColumns + 2 * (mostRows * mostColumns))
 
-pub length-most : {G : Setting} → Counts G → biasColumns G ≡ 0 → ticketLength G ≤ longestTicket
-length-most {G} counts none = omega (arith, length-is G, ap (λ n. G .rows * n) none)
+pub length-most : {G : Setting} → Counts G → ticketLength G ≤ longestTicket + recordBytes * (G .rows * biasColumns G)
+length-most {G} counts = omega (arith, length-is G)
 
 -- the bytes of a part
 

@@ -8,6 +8,7 @@
 --   refusal-is      the refusal is at i, where the number there is not 0 and those before it are
 --   FirstOther n f i, zeros-or-first   either all of n numbers are 0, or there is a first that is not
 --   after-passed, after-refused   an answer after an earlier one that passes, and after one that refuses
+--   after-together  two answers before a third
 --   refusal-cong    equal numbers give equal answers
 --   refusal-split   a scan of m + n numbers is a scan of m, then one of the n after them
 use Rattle.ticket.specs.Rules.{first, unless, scan, firstRefusal, after, refusal}
@@ -17,7 +18,7 @@ use Prim.Native.Nat.{ℕ, _+_, _<_}
 use native.Mathlib.Omega.{arith}
 use mathlib.Core.Logic.{_⊎_, inl, inr, ⊎-elim}
 use mathlib.Core.Path.{_≡_, refl, sym, ap, _∙_}
-use mathlib.Core.Bool.{Bool, true, false}
+use mathlib.Core.Bool.{Bool, true, false, cond}
 use borrow.Author.Tests.{eq-eqb, ne-eqb, eqb-true, eqb-false}
 use lib.Dec.{eqb}
 
@@ -60,6 +61,14 @@ after-passed a b e = rw (eq-eqb (a .number) 0 e)
 pub after-refused : (a b : Answer) → (a .number ≡ 0 → ⊥) → after a b ≡ a
 unfolding after
 after-refused a b d = rw (ne-eqb (a .number) 0 d)
+
+pub after-together : (a b c : Answer) → after (after a b) c ≡ after a (after b c)
+unfolding after
+after-together a b c = by-first (eqb (a .number) 0) refl
+  where
+    by-first : (zero : Bool) → eqb (a .number) 0 ≡ zero → after (cond zero b a) c ≡ cond zero (after b c) a
+    by-first true e = refl
+    by-first false e = rw e
 
 pub refusal-cong : (start n : ℕ) (f g : ℕ → ℕ) → ((k : ℕ) → k < n → f k ≡ g k) → firstRefusal start n f ≡ firstRefusal start n g
 refusal-cong start n f g h =

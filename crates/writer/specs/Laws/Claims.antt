@@ -31,25 +31,25 @@ use Rattle.ticket.specs.Laws.Limits.{Numbers, Fitted, Within, clamped, clamped-
 use Rattle.ticket.specs.Laws.Lifts.{Lifted, lifted-small, lifted-sum}
 use Rattle.writer.specs.Rules.{sumFor, quotientOf, remainderOf}
 
-module _ (G : Setting) (A B : List ℤ) (i j : ℕ) where
-  pub claim-sum : pos (G .scale) *ℤ quotientOf G A B i j +ℤ remainderOf G A B i j ≡ sumFor G A B i j
+module _ (G : Setting) (A B C : List ℤ) (i j : ℕ) where
+  pub claim-sum : pos (G .scale) *ℤ quotientOf G A B C i j +ℤ remainderOf G A B C i j ≡ sumFor G A B C i j
   unfolding remainderOf
   claim-sum =
-      let product = pos (G .scale) *ℤ quotientOf G A B i j in
-      +ℤ-comm product (sumFor G A B i j -ℤ product) ∙ -ℤ-+ℤ-cancel (sumFor G A B i j) product
+      let product = pos (G .scale) *ℤ quotientOf G A B C i j in
+      +ℤ-comm product (sumFor G A B C i j -ℤ product) ∙ -ℤ-+ℤ-cancel (sumFor G A B C i j) product
 
-  pub remainder-left : 0 < G .scale → (r : ℕ) × (r < G .scale) × (remainderOf G A B i j ≡ pos r)
+  pub remainder-left : 0 < G .scale → (r : ℕ) × (r < G .scale) × (remainderOf G A B C i j ≡ pos r)
   unfolding quotientOf
   remainder-left above =
-      let h = floor-left (sumFor G A B i j) (G .scale) above in
-      let product = pos (G .scale) *ℤ quotientOf G A B i j in
+      let h = floor-left (sumFor G A B C i j) (G .scale) above in
+      let product = pos (G .scale) *ℤ quotientOf G A B C i j in
       let same = claim-sum ∙ sym (h .2) in (
         h .0,
         h .1,
-        equal-of-parts (remainderOf G A B i j) (pos (h .0))
+        equal-of-parts (remainderOf G A B C i j) (pos (h .0))
             (omega (
               arith,
-              parts-sum product (remainderOf G A B i j),
+              parts-sum product (remainderOf G A B C i j),
               parts-sum product (pos (h .0)),
               ap positive same,
               ap negative same,

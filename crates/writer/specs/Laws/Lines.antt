@@ -4,7 +4,7 @@
 --   LineReady a x o          the output o has room for them
 --   LineWrote κ i a x o o'   they are written
 --   OperandReady a m n x o   the output has room for those of the operand x of m rows and n columns
---   OperandOf G A B w κ m n a x   x is what part w stands for, which has the kind κ and begins at record a
+--   OperandOf G A B C w κ m n a x   x is what part w stands for, which has the kind κ and begins at record a
 --   OperandTo κ m n a x c o o'    its first c records are written, whatever ticket it is in
 --   OperandWrote κ m n a x o o'   all are
 --   line-record           one more record of a row is written
@@ -30,7 +30,7 @@ abbrev pub lineRecord : ℕ → ℕ → ℕ → List ℤ → ℕ → List ℕ
 lineRecord kind row first entries k = recordOf kind row (k - first) (leastResidue modulus (getD entries (k - first) (pos 0)))
 
 pub record LineReady (first : ℕ) (entries : List ℤ) (output : List ℕ) : Type 0 where
-  pub entries-small : SmallEntries entries
+  pub entries-small : SmallEntries 30 entries
   pub wide : length entries ≤ mostInner
   pub room : recordBytes * (first + length entries) ≤ length output
 
@@ -38,22 +38,22 @@ abbrev pub LineWrote : ℕ → ℕ → ℕ → List ℤ → List ℕ → List �
 LineWrote kind row first entries = Wrote (lineRecord kind row first entries) (Among first (length entries))
 
 pub record OperandReady (start height width : ℕ) (operand : List ℤ) (output : List ℕ) : Type 0 where
-  pub entries-small : SmallEntries operand
+  pub entries-small : SmallEntries 30 operand
   pub high : height ≤ mostInner
   pub wide : width ≤ mostInner
   pub count : length operand ≡ height * width
   pub room : recordBytes * (start + height * width) ≤ length output
 
-pub record OperandOf (G : Setting) (A B : List ℤ) (w kind height width first : ℕ) (operand : List ℤ) : Type 0 where
+pub record OperandOf (G : Setting) (A B C : List ℤ) (w kind height width first : ℕ) (operand : List ℤ) : Type 0 where
   pub named : PartIs G w kind height width
-  pub integers : (i j : ℕ) → integerIn G A B w i j ≡ entryOf width operand i j
+  pub integers : (i j : ℕ) → integerIn G A B C w i j ≡ entryOf width operand i j
   pub first-is : first ≡ start G w
 
 -- the first n records
 abbrev pub OperandTo : ℕ → ℕ → ℕ → ℕ → List ℤ → ℕ → List ℕ → List ℕ → Type 0
 OperandTo kind height width first operand n before after =
-    (G : Setting) (A B : List ℤ) (w : ℕ) → OperandOf G A B w kind height width first operand
-    → Wrote (ticketRecord G A B) (Among first n) before after
+    (G : Setting) (A B C : List ℤ) (w : ℕ) → OperandOf G A B C w kind height width first operand
+    → Wrote (ticketRecord G A B C) (Among first n) before after
 
 pub record OperandWrote (kind height width first : ℕ) (operand : List ℤ) (before after : List ℕ) : Type 0 where
   pub long : length after ≡ length before
@@ -70,16 +70,16 @@ line-record kind row first entries {column} {header} {value} so-far one k i j he
     words-record kind row column value k i j header-is ∙ rw (place, value-is)))
 
 pub rows-none : {kind height width first : ℕ} {operand : List ℤ} {before : List ℕ} → OperandTo kind height width first operand 0 before before
-rows-none G A B w of = wrote-none (λ k a. omega (arith, a .from, a .below))
+rows-none G A B C w of = wrote-none (λ k a. omega (arith, a .from, a .below))
 
 pub row-records : (kind height width start : ℕ) (operand : List ℤ) (row : ℕ) {first : ℕ} {before output after : List ℕ} → row < height
     → first ≡ row * width → OperandTo kind height width start operand first before output
     → Wrote (lineRecord kind row (start + first) (take (first + width - first) (drop first operand))) (Among (start + first) width) output after
     → OperandTo kind height width start operand (first + width) before after
-row-records kind height width start operand row {first} l first-is so-far line G A B w of =
-    wrote-on (so-far G A B w of) (wrote-as line (λ n a.
+row-records kind height width start operand row {first} l first-is so-far line G A B C w of =
+    wrote-on (so-far G A B C w of) (wrote-as line (λ n a.
     let j = n - (start + first) in
     let inside : j < width = omega (arith, a .from, a .below) in
     let entry = part-of operand first width j (pos 0) inside ∙ ap (λ i. getD operand (i + j) (pos 0)) first-is in
-    record-named G A B (of .named) l inside (ap (leastResidue modulus) (entry ∙ sym (of .integers row j)))
+    record-named G A B C (of .named) l inside (ap (leastResidue modulus) (entry ∙ sym (of .integers row j)))
     (omega (arith, a .from, of .first-is))))

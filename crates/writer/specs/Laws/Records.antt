@@ -14,7 +14,7 @@
 --   record-named         and by its part's kind and sizes
 --   ticket-formed, ticket-value   its form and its value
 --   value-in-ticket      the value in a row and a column of a part
---   integer-A, integer-B, integer-quotient, integer-remainder   the integers of each part
+--   integer-A, integer-B, integer-bias, integer-quotient, integer-remainder   the integers of each part
 --   wordsOf h v          the eight bytes of two words, little-endian
 --   length-words         how many they are
 --   words-record         the words of a record are its bytes
@@ -36,7 +36,7 @@ use Rattle.residue.specs.Laws.Residues.{residue-below}
 use Rattle.algebra.specs.Rules.{word}
 use Rattle.algebra.specs.Laws.Bytes.{bytes-of-word, word-of-bytes}
 use Rattle.ticket.specs.declared.setting.Setting.{Setting}
-use Rattle.ticket.specs.Rules.{recordBytes, byteAt, records, ticketLength, part, start, ofA, ofB, ofQuotients, ofRemainders, formed, valueAt, valueIn}
+use Rattle.ticket.specs.Rules.{recordBytes, byteAt, records, ticketLength, part, start, ofA, ofB, ofBias, biasColumns, ofQuotients, ofRemainders, formed, valueAt, valueIn}
 use Rattle.ticket.specs.Laws.Forms.{FormedBytes, formed-exactly, value-is}
 use Rattle.ticket.specs.Laws.Layout.{parts-are, length-is, Located, record-at, value-in, PartIs}
 use Rattle.writer.specs.Rules.{joined, recordOf, integersOf, integerIn, ticketRecord, ticketOf, entryOf, quotientOf, remainderOf}
@@ -119,63 +119,67 @@ record-read bytes i kind row column small e = record { is = record { byte = at }
 pub length-records : (G : Setting) → ticketLength G ≡ recordBytes * records G
 length-records G = omega (arith, length-is G, parts-are G .all)
 
-module _ (G : Setting) (A B : List ℤ) where
-  length-ticketRecord : (k : ℕ) → length (ticketRecord G A B k) ≡ recordBytes
+module _ (G : Setting) (A B C : List ℤ) where
+  length-ticketRecord : (k : ℕ) → length (ticketRecord G A B C k) ≡ recordBytes
   unfolding ticketRecord
   length-ticketRecord k = length-recordOf _ _ _ _
 
-  pub length-ticketOf : length (ticketOf G A B) ≡ ticketLength G
+  pub length-ticketOf : length (ticketOf G A B C) ≡ ticketLength G
   unfolding ticketOf
-  length-ticketOf = length-joined (records G) recordBytes (ticketRecord G A B) length-ticketRecord ∙ sym (length-records G)
+  length-ticketOf = length-joined (records G) recordBytes (ticketRecord G A B C) length-ticketRecord ∙ sym (length-records G)
 
-  pub ticket-record : {k : ℕ} → k < records G → RecordIs (ticketOf G A B) k (ticketRecord G A B k)
+  pub ticket-record : {k : ℕ} → k < records G → RecordIs (ticketOf G A B C) k (ticketRecord G A B C k)
   unfolding ticketOf
-  ticket-record {k} l = record { byte = λ i m. joined-at (records G) recordBytes (ticketRecord G A B) length-ticketRecord k i l m }
+  ticket-record {k} l = record { byte = λ i m. joined-at (records G) recordBytes (ticketRecord G A B C) length-ticketRecord k i l m }
 
   module _ {k w row column : ℕ} (at : Located G k w row column) where
-    pub record-located : ticketRecord G A B k ≡ recordOf (part G w .kind) row column (leastResidue modulus (integerIn G A B w row column))
+    pub record-located : ticketRecord G A B C k ≡ recordOf (part G w .kind) row column (leastResidue modulus (integerIn G A B C w row column))
     unfolding ticketRecord
     record-located =
         let index : k - start G w ≡ row * part G w .columns + column = omega (arith, at .place) in
         rw (at .in-part, index, digits-div row (at .column-within), digits-mod row (at .column-within))
 
     module _ (l : k < records G) where
-      pub ticket-record-at : RecordAt (ticketOf G A B) k (part G w .kind) row column (leastResidue modulus (integerIn G A B w row column))
+      pub ticket-record-at : RecordAt (ticketOf G A B C) k (part G w .kind) row column (leastResidue modulus (integerIn G A B C w row column))
       ticket-record-at = record { is = rw record-located at (ticket-record l) }
 
-      pub ticket-formed : formed (ticketOf G A B) k (part G w .kind) row column ≡ true
+      pub ticket-formed : formed (ticketOf G A B C) k (part G w .kind) row column ≡ true
       ticket-formed = formed-record ticket-record-at
 
-      pub ticket-value : valueAt (ticketOf G A B) k ≡ leastResidue modulus (integerIn G A B w row column)
-      ticket-value = value-record ticket-record-at (omega (arith, residue-below modulus modulus-positive (integerIn G A B w row column), modulus-below))
+      pub ticket-value : valueAt (ticketOf G A B C) k ≡ leastResidue modulus (integerIn G A B C w row column)
+      ticket-value = value-record ticket-record-at (omega (arith, residue-below modulus modulus-positive (integerIn G A B C w row column), modulus-below))
 
   -- the record in a row and a column of a part that is known by its kind and sizes
   pub record-named : {w kind rows columns : ℕ} → PartIs G w kind rows columns → {row column value k : ℕ} → row < rows
-      → column < columns → value ≡ leastResidue modulus (integerIn G A B w row column) → k ≡ start G w + (row * columns + column)
-      → recordOf kind row column value ≡ ticketRecord G A B k
+      → column < columns → value ≡ leastResidue modulus (integerIn G A B C w row column) → k ≡ start G w + (row * columns + column)
+      → recordOf kind row column value ≡ ticketRecord G A B C k
   record-named {w} is {row} {column} l m value place =
       let at = record-at G w row column (rw (is .rows-are) l) (rw (is .columns-are) m) .1 in
       sym (rw (is .columns-are, sym place, is .kind-is, sym value) at (record-located at))
 
   pub value-in-ticket : (w row column : ℕ) → row < part G w .rows → column < part G w .columns
-      → valueIn G (ticketOf G A B) w row column ≡ leastResidue modulus (integerIn G A B w row column)
+      → valueIn G (ticketOf G A B C) w row column ≡ leastResidue modulus (integerIn G A B C w row column)
   value-in-ticket w row column l m =
       let at = record-at G w row column l m in
-      value-in G (ticketOf G A B) w row column ∙ ticket-value (at .1) (at .0)
+      value-in G (ticketOf G A B C) w row column ∙ ticket-value (at .1) (at .0)
 
-  pub integer-A : (i j : ℕ) → integerIn G A B ofA i j ≡ entryOf (G .inner) A i j
+  pub integer-A : (i j : ℕ) → integerIn G A B C ofA i j ≡ entryOf (G .inner) A i j
   unfolding integersOf integerIn
   integer-A i j = refl
 
-  pub integer-B : (i j : ℕ) → integerIn G A B ofB i j ≡ entryOf (G .columns) B i j
+  pub integer-B : (i j : ℕ) → integerIn G A B C ofB i j ≡ entryOf (G .columns) B i j
   unfolding integersOf integerIn
   integer-B i j = refl
 
-  pub integer-quotient : (i j : ℕ) → integerIn G A B ofQuotients i j ≡ quotientOf G A B i j
+  pub integer-bias : (i j : ℕ) → integerIn G A B C ofBias i j ≡ entryOf (biasColumns G) C i j
+  unfolding integersOf integerIn
+  integer-bias i j = refl
+
+  pub integer-quotient : (i j : ℕ) → integerIn G A B C ofQuotients i j ≡ quotientOf G A B C i j
   unfolding integersOf integerIn
   integer-quotient i j = refl
 
-  pub integer-remainder : (i j : ℕ) → integerIn G A B ofRemainders i j ≡ remainderOf G A B i j
+  pub integer-remainder : (i j : ℕ) → integerIn G A B C ofRemainders i j ≡ remainderOf G A B C i j
   unfolding integersOf integerIn
   integer-remainder i j = refl
 

@@ -1,42 +1,48 @@
 -- The records of the claims, row by row, as the code writes them.
 --
 --   RowReady G h l s q r o     the sums s are those of a whole row, and o has room for their claims, from records q and r on
---   RowOf G A B i s q r        s is the sums of row i of A, modulo 2^32, and q and r are where the claims of row i begin
+--   RowOf G A B C i s q r        s is the sums of row i of A, modulo 2^32, and q and r are where the claims of row i begin
 --   RowTo G i s q r n o o'     the first n claims of the row are written, whatever operands these are of
 --   RowWrote G i s q r o o'    all are
 --   row-none, row-claim        no claim of the row is written yet, and one more
 --   Room G a b c               lists of a, b and c numbers have room for a row of A, for the columns of B and for the sums of a row
 --   tiny-room, most-room       so have lists as long as B, and the longest
 --   most-entries               how many entries B has at most
---   RowsReady G A B x Y s o    A and B are to be written; there is room for a row of A, for the columns of B, for sums and for the ticket
+--   RowsReady G A B C x Y s o    A and B are to be written; there is room for a row of A, for the columns of B, for sums and for the ticket
 --   RowsAt G i a x s q r       before row i: its entries begin at a, its claims at the records q and r, and x and s have room for the row
 --   RowRoom G A i a x q r      row i is inside A, and the records of its claims come early
---   ClaimsWrote G A B n o o'   the claims of the first n rows are written
+--   ClaimsWrote G A B C n o o'   the claims of the first n rows are written
+--   bias-ready                 a row of the bias can be added to the sums of that row
 --   rows-begun, row-room, row-ready, rows-none, rows-next, rows-more   before the first row, before each, and after it
 use Prim.Native.Nat.{ℕ, _+_, _-_, _*_, _^_, _≤_, _<_}
 use native.Mathlib.Nat.{mul-le-mul-left, mul-le-mul-right}
 use native.Mathlib.Omega.{arith}
 use mathlib.Core.Path.{_≡_, sym, ap, _∙_}
+use mathlib.Core.Bool.{true, false}
 use mathlib.Core.Logic.{⊎-elim}
+use borrow.Author.Tests.{eq-eqb, ne-eqb}
+use lib.Dec.{eqb}
 use mathlib.Core.List.{List}
 use lib.Arith.{digits-lt, digits-div, digits-mod}
-use lib.IntN.{ℤ, pos}
+use lib.IntN.{ℤ, pos, _+ℤ_, +ℤ-idr}
 use lib.ListN.{length, getD, take, drop}
 use Rattle.residue.specs.Rules.{modulus, leastResidue}
-use Rattle.algebra.specs.Rules.{word}
+use Rattle.algebra.specs.Rules.{word, matrixProduct}
 use Rattle.algebra.specs.Laws.Fills.{Filled, part-of}
 use Rattle.algebra.specs.Laws.Positions.{row-inside}
 use Rattle.exact.specs.Laws.Matrices.{turnedNumber, RowSums, row-sums-exact}
 use Rattle.ticket.specs.declared.setting.Setting.{Setting}
-use Rattle.ticket.specs.Rules.{mostRows, mostInner, mostColumns, recordBytes, ticketLength, halfRange, start, ofQuotients, ofRemainders}
-use Rattle.ticket.specs.Laws.Differences.{exactSum-is}
+use Rattle.ticket.specs.Rules.{mostRows, mostInner, mostColumns, recordBytes, ticketLength, halfRange, start, ofQuotients, ofRemainders, biasColumns}
+use Rattle.ticket.specs.Laws.Differences.{biasedSum-is}
 use Rattle.ticket.specs.Laws.Layout.{parts-are, length-is, PartIs, part-quotients, part-remainders}
-use Rattle.ticket.specs.Laws.Limits.{counts, clamped}
+use Rattle.ticket.specs.Laws.Limits.{with-bias, without-bias, counts, clamped}
+use Rattle.ticket.specs.Laws.First.{true-or-false}
+use Rattle.residue.specs.Laws.Residues.{residue-sum}
 use Rattle.writer.specs.Rules.{entryOf, sumFor, quotientOf, remainderOf, integerIn, ticketRecord}
 use Rattle.writer.specs.Laws.Answers.{Writable}
 use Rattle.writer.specs.Laws.Claims.{Lifting, Claimed, lifting-of, quotient-true, remainder-true}
-use Rattle.writer.specs.Laws.Entries.{limits, unclamped, long-A, long-B, size-sumFor}
-use Rattle.writer.specs.Laws.Operands.{columnOf}
+use Rattle.writer.specs.Laws.Entries.{limits, unclamped, long-A, long-B, long-C, no-bias, size-sumFor}
+use Rattle.writer.specs.Laws.Operands.{columnOf, BiasReady, BiasAdded}
 use Rattle.writer.specs.Laws.Records.{wordsOf, words-record, record-named, integer-quotient, integer-remainder}
 use Rattle.writer.specs.Laws.Writes.{Wrote, Among, Both, wrote-none, wrote-as, wrote-both, both-on}
 
@@ -47,34 +53,34 @@ pub record RowReady (G : Setting) (half lifting : ℕ) (sums : List ℕ) (quotie
   pub room-quotients : recordBytes * (quotients + G .columns) ≤ length output
   pub room-remainders : recordBytes * (remainders + G .columns) ≤ length output
 
-pub record RowOf (G : Setting) (A B : List ℤ) (row : ℕ) (sums : List ℕ) (quotients remainders : ℕ) : Type 0 where
-  pub writable : Writable G A B
+pub record RowOf (G : Setting) (A B C : List ℤ) (row : ℕ) (sums : List ℕ) (quotients remainders : ℕ) : Type 0 where
+  pub writable : Writable G A B C
   pub within : row < G .rows
-  pub sums-are : (j : ℕ) → j < G .columns → getD sums j 0 ≡ leastResidue (2 ^ 32) (sumFor G A B row j)
+  pub sums-are : (j : ℕ) → j < G .columns → getD sums j 0 ≡ leastResidue (2 ^ 32) (sumFor G A B C row j)
   pub quotients-at : quotients ≡ start G ofQuotients + row * G .columns
   pub remainders-at : remainders ≡ start G ofRemainders + row * G .columns
 
 -- up to column n
 abbrev pub RowTo : Setting → ℕ → List ℕ → ℕ → ℕ → ℕ → List ℕ → List ℕ → Type 0
 RowTo G row sums quotients remainders n before after =
-    (A B : List ℤ) → RowOf G A B row sums quotients remainders → Wrote (ticketRecord G A B) (Both quotients remainders n) before after
+    (A B C : List ℤ) → RowOf G A B C row sums quotients remainders → Wrote (ticketRecord G A B C) (Both quotients remainders n) before after
 
 pub record RowWrote (G : Setting) (row : ℕ) (sums : List ℕ) (quotients remainders : ℕ) (before after : List ℕ) : Type 0 where
   pub long : length after ≡ length before
   pub wrote : RowTo G row sums quotients remainders (G .columns) before after
 
 -- a record of the claims, by its words
-claim-record : (G : Setting) (A B : List ℤ) {w kind : ℕ} → PartIs G w kind (G .rows) (G .columns)
+claim-record : (G : Setting) (A B C : List ℤ) {w kind : ℕ} → PartIs G w kind (G .rows) (G .columns)
     → {row column first header value : ℕ} → row < G .rows → column < G .columns → first ≡ start G w + row * G .columns
-    → kind < 256 → row < 256 → column < 256 → header ≡ word kind 0 row column → value ≡ leastResidue modulus (integerIn G A B w row column)
-    → (k : ℕ) → Among (first + column) 1 k → wordsOf header value ≡ ticketRecord G A B k
-claim-record G A B {kind = kind} is {row} {column} {value = value} l m first-is small-kind small-row small-column header-is value-is k a =
+    → kind < 256 → row < 256 → column < 256 → header ≡ word kind 0 row column → value ≡ leastResidue modulus (integerIn G A B C w row column)
+    → (k : ℕ) → Among (first + column) 1 k → wordsOf header value ≡ ticketRecord G A B C k
+claim-record G A B C {kind = kind} is {row} {column} {value = value} l m first-is small-kind small-row small-column header-is value-is k a =
     words-record kind row column value small-kind small-row small-column header-is
-    ∙ record-named G A B is l m value-is (omega (arith, a .from, a .below))
+    ∙ record-named G A B C is l m value-is (omega (arith, a .from, a .below))
 
 module _ {G : Setting} {row : ℕ} {sums : List ℕ} {quotients remainders : ℕ} where
   pub row-none : {before : List ℕ} → RowTo G row sums quotients remainders 0 before before
-  row-none A B of = wrote-none (λ k. ⊎-elim (λ a. omega (arith, a .from, a .below)) (λ a. omega (arith, a .from, a .below)))
+  row-none A B C of = wrote-none (λ k. ⊎-elim (λ a. omega (arith, a .from, a .below)) (λ a. omega (arith, a .from, a .below)))
 
   pub row-claim : {half lifting : ℕ} {before output between after : List ℕ} {column q r x y : ℕ}
       → RowReady G half lifting sums quotients remainders before → row < 256 → column < length sums
@@ -83,20 +89,20 @@ module _ {G : Setting} {row : ℕ} {sums : List ℕ} {quotients remainders : ℕ
       → Wrote (λ k. wordsOf y r) (Among (remainders + column) 1) between after
       → RowTo G row sums quotients remainders (column + 1) before after
   unfolding quotientOf remainderOf
-  row-claim {column = column} ready small l so-far claimed x-is y-is first second A B of =
+  row-claim {column = column} ready small l so-far claimed x-is y-is first second A B C of =
       let m : column < G .columns = omega (arith, ready .long-sums) in
       let within = limits (of .writable) in
-      let S = sumFor G A B row column in
+      let S = sumFor G A B C row column in
       let size = size-sumFor (of .writable) row column (of .within) m in
       let quotient = claimed .quotient-is ∙ quotient-true (within .numbers) (within .fitted) S size (of .sums-are column m)
-      ∙ ap (leastResidue modulus) (sym (integer-quotient G A B row column)) in
+      ∙ ap (leastResidue modulus) (sym (integer-quotient G A B C row column)) in
       let remainder = claimed .remainder-is ∙ remainder-true (within .numbers) (within .fitted) S size (of .sums-are column m)
-      ∙ ap (leastResidue modulus) (sym (integer-remainder G A B row column)) in
+      ∙ ap (leastResidue modulus) (sym (integer-remainder G A B C row column)) in
       let few : column < 256 = omega (arith, ready .few) in
-      both-on (so-far A B of)
+      both-on (so-far A B C of)
       (wrote-both
-      (wrote-as first (claim-record G A B (part-quotients G) (of .within) m (of .quotients-at) (omega arith) small few x-is quotient))
-      (wrote-as second (claim-record G A B (part-remainders G) (of .within) m (of .remainders-at) (omega arith) small few y-is remainder)))
+      (wrote-as first (claim-record G A B C (part-quotients G) (of .within) m (of .quotients-at) (omega arith) small few x-is quotient))
+      (wrote-as second (claim-record G A B C (part-remainders G) (of .within) m (of .remainders-at) (omega arith) small few y-is remainder)))
 
 -- all rows
 
@@ -105,8 +111,8 @@ pub record Room (G : Setting) (line columns sums : ℕ) : Type 0 where
   pub for-columns : G .inner * G .columns ≤ columns
   pub for-sums : G .columns ≤ sums
 
-pub record RowsReady (G : Setting) (A B line columns : List ℤ) (sums output : List ℕ) : Type 0 where
-  pub writable : Writable G A B
+pub record RowsReady (G : Setting) (A B C line columns : List ℤ) (sums output : List ℕ) : Type 0 where
+  pub writable : Writable G A B C
   pub long-line : length line ≡ G .inner
   pub long-columns : length B ≤ length columns
   pub long-sums : length sums ≡ G .columns
@@ -122,13 +128,14 @@ pub record RowsAt (G : Setting) (row from : ℕ) (line : List ℤ) (sums : List 
 
 pub record RowRoom (G : Setting) (A : List ℤ) (row from : ℕ) (line : List ℤ) (quotients remainders : ℕ) : Type 0 where
   pub in-A : from + length line ≤ length A
+  pub short : from + length line < 2 ^ 16
   pub few : row < mostRows
   pub early : (quotients + G .columns < 2 ^ 16) × (remainders + G .columns < 2 ^ 16)
 
-abbrev pub ClaimsWrote : Setting → List ℤ → List ℤ → ℕ → List ℕ → List ℕ → Type 0
-ClaimsWrote G A B rows = Wrote (ticketRecord G A B) (Both (start G ofQuotients) (start G ofRemainders) (rows * G .columns))
+abbrev pub ClaimsWrote : Setting → List ℤ → List ℤ → List ℤ → ℕ → List ℕ → List ℕ → Type 0
+ClaimsWrote G A B C rows = Wrote (ticketRecord G A B C) (Both (start G ofQuotients) (start G ofRemainders) (rows * G .columns))
 
-module _ {G : Setting} {A B : List ℤ} (w : Writable G A B) where
+module _ {G : Setting} {A B C : List ℤ} (w : Writable G A B C) where
   pub tiny-room : {n : ℕ} → length B ≤ n → Room G n n n
   tiny-room few =
       let sizes = limits w .sizes in
@@ -144,7 +151,7 @@ module _ {G : Setting} {A B : List ℤ} (w : Writable G A B) where
   pub most-entries : length B ≤ mostInner * mostColumns
   most-entries = omega (arith, long-B w, counts (limits w .sizes))
 
-module _ {G : Setting} {A B line columns : List ℤ} {sums before : List ℕ} (ready : RowsReady G A B line columns sums before) where
+module _ {G : Setting} {A B C line columns : List ℤ} {sums before : List ℕ} (ready : RowsReady G A B C line columns sums before) where
   pub rows-begun : {quotients remainders : ℕ} → quotients ≡ start (clamped G) ofQuotients → remainders ≡ start (clamped G) ofRemainders
       → RowsAt G 0 0 line sums quotients remainders
   rows-begun q-is r-is =
@@ -167,6 +174,7 @@ module _ {G : Setting} {A B line columns : List ℤ} {sums before : List ℕ} (r
         let few = counts (limits (ready .writable) .sizes) in
         record {
           in-A = omega (arith, long-A (ready .writable), at);
+          short = omega (arith, at, few .entries-A);
           few = omega (arith, few .sizes .rows);
           early = omega (arith, parts-are G, few, at);
         }
@@ -183,8 +191,38 @@ module _ {G : Setting} {A B line columns : List ℤ} {sums before : List ℕ} (r
           room-remainders = omega (arith, parts-are G, length-is G, at, ready .long-output);
         }
 
-pub rows-none : (G : Setting) (A B : List ℤ) {before : List ℕ} → ClaimsWrote G A B 0 before before
-rows-none G A B = wrote-none (λ k. ⊎-elim (λ a. omega (arith, a .from, a .below)) (λ a. omega (arith, a .from, a .below)))
+-- the sums of a row with the bias added, where there is one
+module _ {G : Setting} {A B C : List ℤ} (w : Writable G A B C) {row : ℕ} (l : row < G .rows) where
+  pub bias-ready : {sums : List ℕ} → length sums ≡ G .columns → BiasReady C (row * G .columns) sums
+  bias-ready long =
+      record {
+        inside = λ some.
+            let there : G .biased ≡ true =
+            ⊎-elim (λ e. e) (λ e. absurd (some (omega (arith, long-C w, ap (λ n. G .rows * n) (without-bias G e .1))))) (true-or-false (G .biased)) in
+            omega (arith, long-C w, ap (λ n. G .rows * n) (with-bias G there .1), row-inside (G .columns) l);
+      }
+
+  bias-added : {sums after : List ℕ} → BiasAdded C (row * G .columns) sums after → length sums ≡ G .columns
+      → (j : ℕ) → j < G .columns → getD sums j 0 ≡ leastResidue (2 ^ 32) (matrixProduct (G .inner) (entryOf (G .inner) A) (entryOf (G .columns) B) row j)
+      → getD after j 0 ≡ leastResidue (2 ^ 32) (sumFor G A B C row j)
+  bias-added {sums} {after} added long j m sum =
+      let P = matrixProduct (G .inner) (entryOf (G .inner) A) (entryOf (G .columns) B) row j in
+      let c = entryOf (biasColumns G) C row j in
+      let word : 0 < 2 ^ 32 = omega arith in
+      let due = ap (leastResidue (2 ^ 32)) (sym (biasedSum-is G (entryOf (G .inner) A) (entryOf (G .columns) B) (entryOf (biasColumns G) C) row j)) in
+      ⊎-elim
+      (λ e. let wide = with-bias G e .1 in
+      let some : eqb (length C) 0 ≡ false =
+      ne-eqb (length C) 0 (λ z. omega (arith, long-C w, ap (λ n. G .rows * n) wide, digits-lt l m)) in
+      let entry : getD C (row * G .columns + j) (pos 0) ≡ c = ap (λ n. getD C (row * n + j) (pos 0)) (sym wide) in
+      added .each j (rw some (omega arith)) ∙ rw (sum, entry) (sym (residue-sum (2 ^ 32) word P c)) ∙ due)
+      (λ e. let none : eqb (length C) 0 ≡ true = eq-eqb (length C) 0 (omega (arith, long-C w, ap (λ n. G .rows * n) (without-bias G e .1))) in
+      added .rest j (rw none (omega arith)) ∙ sum
+      ∙ ap (leastResidue (2 ^ 32)) (sym (ap (λ z. P +ℤ z) (no-bias w e (row * biasColumns G + j)) ∙ +ℤ-idr P)) ∙ due)
+      (true-or-false (G .biased))
+
+pub rows-none : (G : Setting) (A B C : List ℤ) {before : List ℕ} → ClaimsWrote G A B C 0 before before
+rows-none G A B C = wrote-none (λ k. ⊎-elim (λ a. omega (arith, a .from, a .below)) (λ a. omega (arith, a .from, a .below)))
 
 module _ {G : Setting} {row from quotients remainders : ℕ} {slice line : List ℤ} {old sums : List ℕ}
     (at : RowsAt G row from slice old quotients remainders) (l : row < G .rows) where
@@ -201,29 +239,28 @@ module _ {G : Setting} {row from quotients remainders : ℕ} {slice line : List 
       }
 
   -- the row of A and the columns of B, as they were narrowed
-  pub rows-more : {A B kept columns : List ℤ} {before output after : List ℕ} → Writable G A B
+  pub rows-more : {A B C kept columns : List ℤ} {before output after made : List ℕ} → Writable G A B C
       → Filled (pos 0) slice (length slice) (columnOf (take (from + length slice - from) (drop from A)) 1 0) line
       → Filled (pos 0) kept (G .columns * G .inner) (turnedNumber B (G .inner) (G .columns)) columns → length B ≤ length kept
-      → RowSums line columns old sums → ClaimsWrote G A B row before output → RowWrote G row sums quotients remainders output after
-      → ClaimsWrote G A B (row + 1) before after
-  rows-more {A} {B} {columns = columns} writable row-filled filled room summed so-far row-wrote =
+      → RowSums line columns old made → BiasAdded C (row * G .columns) made sums → ClaimsWrote G A B C row before output → RowWrote G row sums quotients remainders output after
+      → ClaimsWrote G A B C (row + 1) before after
+  rows-more {A} {B} {C} {columns = columns} {made = made} writable row-filled filled room summed biased so-far row-wrote =
       let m = G .inner in
       let X = entryOf m A in
       let Y = entryOf (G .columns) B in
       let next : row * G .columns + G .columns ≡ (row + 1) * G .columns = omega arith in
-      let sum : (j : ℕ) → j < G .columns → getD sums j 0 ≡ leastResidue (2 ^ 32) (sumFor G A B row j) =
+      let sum : (j : ℕ) → j < G .columns → getD made j 0 ≡ leastResidue (2 ^ 32) (matrixProduct m X Y row j) =
       λ j h. row-sums-exact summed m X Y row j (row-filled .long ∙ at .long-line) (omega (arith, at .long-sums))
       (omega (arith, row-inside m h, long-B writable, filled .long))
       (λ k n. let same : k * 1 + 0 ≡ k = omega arith in
       let inside : k < length slice = omega (arith, at .long-line) in
       row-filled .each k inside ∙ rw (same, part-of A from (length slice) k (pos 0) inside, at .from-is))
-      (λ k n. filled .each (j * m + k) (digits-lt h n) ∙ rw (digits-mod j n, digits-div j n))
-      ∙ ap (leastResidue (2 ^ 32)) (sym (exactSum-is G X Y row j)) in
-      let of : RowOf G A B row sums quotients remainders = record {
+      (λ k n. filled .each (j * m + k) (digits-lt h n) ∙ rw (digits-mod j n, digits-div j n)) in
+      let of : RowOf G A B C row sums quotients remainders = record {
         writable = writable;
         within = l;
-        sums-are = sum;
+        sums-are = λ j h. bias-added writable l biased (omega (arith, summed .long, at .long-sums)) j h (sum j h);
         quotients-at = at .quotients-at;
         remainders-at = at .remainders-at;
       } in
-      rw next at (both-on so-far (rw (at .quotients-at, at .remainders-at) at (row-wrote .wrote A B of)))
+      rw next at (both-on so-far (rw (at .quotients-at, at .remainders-at) at (row-wrote .wrote A B C of)))

@@ -1,9 +1,9 @@
 -- The whole ticket, as the code writes it: the operands and the claims.
 --
---   of-A, of-B           the operands are what the first two parts stand for
---   ready-A, ready-B     what writing them asks for
+--   of-A, of-B, of-C     the operands and the bias are what the first three parts stand for
+--   ready-A, ready-B, ready-C   what writing them asks for
 --   ticket-wrote         the operands and the claims are the ticket
---   Wrote-as-ruled G A B o a o'   the answer a and the output o' are those of the rules, for the output o
+--   Wrote-as-ruled G A B C o a o'   the answer a and the output o' are those of the rules, for the output o
 --   refused, all-written   so they are where the writer refuses, and where it writes the ticket
 use Prim.Native.Nat.{ℕ, _*_, _≤_, _<_}
 use native.Mathlib.Decide.{decLt}
@@ -15,29 +15,33 @@ use lib.IntN.{ℤ}
 use lib.ListN.{length, drop}
 use Rattle.ticket.specs.declared.setting.Setting.{Setting}
 use Rattle.ticket.specs.declared.Answer.{Answer}
-use Rattle.ticket.specs.Rules.{start, ofA, ofB, ofQuotients, ofRemainders, records, ticketLength}
-use Rattle.ticket.specs.Laws.Layout.{parts-are, length-is, part-A, part-B}
-use Rattle.ticket.specs.Laws.Limits.{clamped}
+use Rattle.ticket.specs.Rules.{start, ofA, ofB, ofBias, biasColumns, ofQuotients, ofRemainders, records, ticketLength}
+use Rattle.ticket.specs.Laws.Layout.{parts-are, length-is, part-A, part-B, part-bias}
+use Rattle.ticket.specs.Laws.Limits.{bias-columns-most, clamped}
 use Rattle.writer.specs.Rules.{ticketOf, written, writing, outputAfter}
 use Rattle.writer.specs.Laws.Answers.{Writable, ticket-written, writing-of, output-refused, output-written}
-use Rattle.writer.specs.Laws.Entries.{limits, unclamped, long-A, long-B, small-A, small-B}
+use Rattle.writer.specs.Laws.Entries.{limits, unclamped, long-A, long-B, long-C, small-A, small-B, small-C}
+use Rattle.writer.specs.Laws.Operands.{small-more}
 use Rattle.writer.specs.Laws.Lines.{OperandOf, OperandReady, OperandWrote}
-use Rattle.writer.specs.Laws.Records.{length-records, length-ticketOf, ticket-record, integer-A, integer-B}
+use Rattle.writer.specs.Laws.Records.{length-records, length-ticketOf, ticket-record, integer-A, integer-B, integer-bias}
 use Rattle.writer.specs.Laws.Rows.{ClaimsWrote}
 use Rattle.writer.specs.Laws.Writes.{Among, Both, wrote-more, wrote-all}
 
-module _ {G : Setting} {A B : List ℤ} (w : Writable G A B) {first : ℕ} where
-  pub of-A : first ≡ start (clamped G) ofA → OperandOf G A B ofA 1 (G .rows) (G .inner) first A
-  of-A e = record { named = part-A G; integers = integer-A G A B; first-is = e ∙ ap (λ H. start H ofA) (unclamped w) }
+module _ {G : Setting} {A B C : List ℤ} (w : Writable G A B C) {first : ℕ} where
+  pub of-A : first ≡ start (clamped G) ofA → OperandOf G A B C ofA 1 (G .rows) (G .inner) first A
+  of-A e = record { named = part-A G; integers = integer-A G A B C; first-is = e ∙ ap (λ H. start H ofA) (unclamped w) }
 
-  pub of-B : first ≡ start (clamped G) ofB → OperandOf G A B ofB 2 (G .inner) (G .columns) first B
-  of-B e = record { named = part-B G; integers = integer-B G A B; first-is = e ∙ ap (λ H. start H ofB) (unclamped w) }
+  pub of-B : first ≡ start (clamped G) ofB → OperandOf G A B C ofB 2 (G .inner) (G .columns) first B
+  of-B e = record { named = part-B G; integers = integer-B G A B C; first-is = e ∙ ap (λ H. start H ofB) (unclamped w) }
+
+  pub of-C : first ≡ start (clamped G) ofBias → OperandOf G A B C ofBias 5 (G .rows) (biasColumns G) first C
+  of-C e = record { named = part-bias G; integers = integer-bias G A B C; first-is = e ∙ ap (λ H. start H ofBias) (unclamped w) }
 
   module _ {output : List ℕ} (room : ticketLength G ≤ length output) where
     pub ready-A : first ≡ start (clamped G) ofA → OperandReady first (G .rows) (G .inner) A output
     ready-A e =
         record {
-          entries-small = small-A w;
+          entries-small = small-more (omega arith) (small-A w);
           high = omega (arith, limits w .sizes .rows);
           wide = limits w .sizes .inner .1;
           count = long-A w;
@@ -47,64 +51,83 @@ module _ {G : Setting} {A B : List ℤ} (w : Writable G A B) {first : ℕ} where
     pub ready-B : first ≡ start (clamped G) ofB → OperandReady first (G .inner) (G .columns) B output
     ready-B e =
         record {
-          entries-small = small-B w;
+          entries-small = small-more (omega arith) (small-B w);
           high = limits w .sizes .inner .1;
           wide = omega (arith, limits w .sizes .columns);
           count = long-B w;
           room = omega (arith, of-B e .first-is, parts-are G, length-is G);
         }
 
--- every record is one of the claims, of A or of B
+    pub ready-C : first ≡ start (clamped G) ofBias → OperandReady first (G .rows) (biasColumns G) C output
+    ready-C e =
+        record {
+          entries-small = small-C w;
+          high = omega (arith, limits w .sizes .rows);
+          wide = omega (arith, limits w .sizes .columns, bias-columns-most G);
+          count = long-C w;
+          room = omega (arith, of-C e .first-is, parts-are G, length-is G);
+        }
+
+-- every record is one of the claims, of A, of B or of the bias
 abbrev Named : Setting → ℕ → Type 0
 Named G k =
-    (Both (start G ofQuotients) (start G ofRemainders) (G .rows * G .columns) k ⊎ Among (start G ofA) (G .rows * G .inner) k)
-    ⊎ Among (start G ofB) (G .inner * G .columns) k
+    ((Both (start G ofQuotients) (start G ofRemainders) (G .rows * G .columns) k ⊎ Among (start G ofA) (G .rows * G .inner) k)
+    ⊎ Among (start G ofB) (G .inner * G .columns) k)
+    ⊎ Among (start G ofBias) (G .rows * biasColumns G) k
 
 all-named : (G : Setting) (k : ℕ) → k < records G → Named G k
 all-named G k l =
     let parts = parts-are G in
     elim (decLt k (start G ofB)) [
-      | yes a ↦ inl (inr (record { from = omega arith; below = omega arith }))
+      | yes a ↦ inl (inl (inr (record { from = omega arith; below = omega arith })))
       | no a ↦
-          elim (decLt k (start G ofQuotients)) [
-            | yes b ↦ inr (record { from = omega arith; below = omega arith })
+          elim (decLt k (start G ofBias)) [
+            | yes b ↦ inl (inr (record { from = omega arith; below = omega arith }))
             | no b ↦
-                inl (inl (elim (decLt k (start G ofRemainders)) [
-                  | yes c ↦ inl (record { from = omega arith; below = omega arith })
-                  | no c ↦ inr (record { from = omega arith; below = omega arith })
-                ]))
+                elim (decLt k (start G ofQuotients)) [
+                  | yes c ↦ inr (record { from = omega arith; below = omega arith })
+                  | no c ↦
+                      inl (inl (inl (elim (decLt k (start G ofRemainders)) [
+                        | yes d ↦ inl (record { from = omega arith; below = omega arith })
+                        | no d ↦ inr (record { from = omega arith; below = omega arith })
+                      ])))
+                ]
           ]
     ]
 
 named-within : (G : Setting) (k : ℕ) → Named G k → k < records G
 named-within G k =
     let parts = parts-are G in
-    ⊎-elim (⊎-elim (⊎-elim (λ a. omega (arith, a .below)) (λ a. omega (arith, a .below))) (λ a. omega (arith, a .below)))
+    ⊎-elim
+    (⊎-elim (⊎-elim (⊎-elim (λ a. omega (arith, a .below)) (λ a. omega (arith, a .below))) (λ a. omega (arith, a .below))) (λ a. omega (arith, a .below)))
     (λ a. omega (arith, a .below))
 
-pub ticket-wrote : {G : Setting} {A B : List ℤ} (w : Writable G A B) {a b : ℕ} {before x y after : List ℕ} → ticketLength G ≤ length before
-    → ClaimsWrote G A B (G .rows) before x → a ≡ start (clamped G) ofA → OperandWrote 1 (G .rows) (G .inner) a A x y
-    → b ≡ start (clamped G) ofB → OperandWrote 2 (G .inner) (G .columns) b B y after
-    → after ≡ ticketOf G A B ++ drop (ticketLength G) before
-ticket-wrote {G} {A} {B} w room claims a-is wrote-A b-is wrote-B =
-    let part-A = rw (of-A w a-is .first-is) at (wrote-A .wrote G A B ofA (of-A w a-is)) in
-    let part-B = rw (of-B w b-is .first-is) at (wrote-B .wrote G A B ofB (of-B w b-is)) in
+pub ticket-wrote : {G : Setting} {A B C : List ℤ} (w : Writable G A B C) {a b c : ℕ} {before x y z after : List ℕ} → ticketLength G ≤ length before
+    → ClaimsWrote G A B C (G .rows) before x → a ≡ start (clamped G) ofA → OperandWrote 1 (G .rows) (G .inner) a A x y
+    → b ≡ start (clamped G) ofB → OperandWrote 2 (G .inner) (G .columns) b B y z
+    → c ≡ start (clamped G) ofBias → OperandWrote 5 (G .rows) (biasColumns G) c C z after
+    → after ≡ ticketOf G A B C ++ drop (ticketLength G) before
+ticket-wrote {G} {A} {B} {C} w room claims a-is wrote-A b-is wrote-B c-is wrote-C =
+    let part-A = rw (of-A w a-is .first-is) at (wrote-A .wrote G A B C ofA (of-A w a-is)) in
+    let part-B = rw (of-B w b-is .first-is) at (wrote-B .wrote G A B C ofB (of-B w b-is)) in
+    let part-C = rw (of-C w c-is .first-is) at (wrote-C .wrote G A B C ofBias (of-C w c-is)) in
     rw (length-records G)
-    (wrote-all (ticketOf G A B)
-    (wrote-more (wrote-more claims part-A (λ k. inl) (λ k. inr) (λ k s. s)) part-B (λ k. inl) (λ k. inr) (λ k s. s))
-    (all-named G) (named-within G) (length-ticketOf G A B ∙ length-records G) (λ k l. ticket-record G A B l) (omega (arith, length-records G)))
+    (wrote-all (ticketOf G A B C)
+    (wrote-more (wrote-more (wrote-more claims part-A (λ k. inl) (λ k. inr) (λ k s. s)) part-B (λ k. inl) (λ k. inr) (λ k s. s))
+    part-C (λ k. inl) (λ k. inr) (λ k s. s))
+    (all-named G) (named-within G) (length-ticketOf G A B C ∙ length-records G) (λ k l. ticket-record G A B C l) (omega (arith, length-records G)))
 
 -- the whole call
 
-module _ (G : Setting) (A B : List ℤ) (before : List ℕ) where
+module _ (G : Setting) (A B C : List ℤ) (before : List ℕ) where
   abbrev pub Wrote-as-ruled : Answer → List ℕ → Type 0
-  Wrote-as-ruled a output = (a ≡ writing G A B (length before)) × (output ≡ outputAfter G A B before)
+  Wrote-as-ruled a output = (a ≡ writing G A B C (length before)) × (output ≡ outputAfter G A B C before)
 
-  pub refused : {a : Answer} → writing G A B (length before) ≡ a → (a .number ≡ 0 → ⊥) → Wrote-as-ruled a before
-  refused e d = (sym e, sym (output-refused G A B before (λ z. d (sym (ap (λ b. b .number) e) ∙ z))))
+  pub refused : {a : Answer} → writing G A B C (length before) ≡ a → (a .number ≡ 0 → ⊥) → Wrote-as-ruled a before
+  refused e d = (sym e, sym (output-refused G A B C before (λ z. d (sym (ap (λ b. b .number) e) ∙ z))))
 
-  pub all-written : Writable G A B → ticketLength G ≤ length before → {output : List ℕ} → output ≡ ticketOf G A B ++ drop (ticketLength G) before
+  pub all-written : Writable G A B C → ticketLength G ≤ length before → {output : List ℕ} → output ≡ ticketOf G A B C ++ drop (ticketLength G) before
       → Wrote-as-ruled (written G) output
   all-written w room e =
-      let answer = writing-of G A B (length before) (ticket-written w room) in
-      (sym answer, e ∙ sym (output-written G A B before (ap (λ b. b .number) answer)))
+      let answer = writing-of G A B C (length before) (ticket-written w room) in
+      (sym answer, e ∙ sym (output-written G A B C before (ap (λ b. b .number) answer)))

@@ -5,21 +5,22 @@ use mathlib.Core.Path.{_≡_, sym, ap, _∙_}
 use borrow.Author.Needs.{needs}
 use lib.ListN.{length}
 use Rattle.residue.specs.Laws.Modulus.{modulus-below}
+use Rattle.residue.specs.Laws.Products.{product-below}
 use Rattle.algebra.specs.Laws.Fills.{part-long}
 use Rattle.ticket.specs.Rules.{lift}
 use Rattle.ticket.specs.Laws.Limits.{lift-small}
 use Rattle.writer.specs.Laws.Entries.{limits, lift-fits, long-B, small-A, small-B}
 use Rattle.writer.specs.Laws.Operands.{small-part}
-use Rattle.writer.specs.Laws.Rows.{RowsAt, RowRoom, ClaimsWrote, rows-begun, row-room, row-ready, rows-none, rows-next, rows-more}
+use Rattle.writer.specs.Laws.Rows.{RowsAt, RowRoom, ClaimsWrote, bias-ready, rows-begun, row-room, row-ready, rows-none, rows-next, rows-more}
 use Rattle.writer.proofs.claims.write_rows.Statement.{statement}
 use Rattle.writer.proofs.claims.write_rows.Tie as tie
 
 abbrev Inv-loop : tie.InvT-loop
-Inv-loop setting a b line₀ columns sums₀ output₀ half lift height width quotients₀ remainders₀ from₀ row₀ line sums output quotients remainders from row =
-    RowsAt setting row from line sums quotients remainders × ClaimsWrote setting a b row output₀ output
+Inv-loop setting a b bias line₀ columns sums₀ output₀ half lift height width quotients₀ remainders₀ from₀ row₀ line sums output quotients remainders from row =
+    RowsAt setting row from line sums quotients remainders × ClaimsWrote setting a b bias row output₀ output
 
 abbrev μ-loop : tie.MeasureT-loop
-μ-loop setting a b line₀ columns sums₀ output₀ half lift height width quotients₀ remainders₀ from₀ row₀ line sums output quotients remainders from row =
+μ-loop setting a b bias line₀ columns sums₀ output₀ half lift height width quotients₀ remainders₀ from₀ row₀ line sums output quotients remainders from row =
     setting .rows - row
 
 abbrev lifted : tie.At-loop Inv-loop μ-loop → tie.After-lift-of Inv-loop μ-loop
@@ -28,11 +29,17 @@ lifted c = c .before .before .before .before .before .before .before .before .be
 abbrev start : tie.At-loop Inv-loop μ-loop → tie.Start Inv-loop μ-loop
 start c = lifted c .before .before .before .before
 
+abbrev summed : tie.After-add-bias-arg Inv-loop μ-loop → tie.After-row-sums Inv-loop μ-loop
+summed c = c .before .before .before
+
+abbrev in-turn : tie.After-add-bias-arg Inv-loop μ-loop → tie.In-loop Inv-loop μ-loop
+in-turn c = summed c .before .before .before .before .before .before .before .before
+
 -- a turn, from where its row is written
 abbrev turn : tie.After-write-row-arg2 Inv-loop μ-loop → tie.In-loop Inv-loop μ-loop
-turn c = c .before .before .before .before .before .before .before .before .before .before .before .before
+turn c = in-turn (c .before .before .before .before .before)
 
-abbrev end : tie.After-slice-known4 Inv-loop μ-loop → tie.In-loop Inv-loop μ-loop
+abbrev end : tie.After-slice-known5 Inv-loop μ-loop → tie.In-loop Inv-loop μ-loop
 end c = turn (c .before .before .before)
 
 -- a row is left
@@ -52,7 +59,7 @@ narrow-columns-requires c κs =
     record { entries = small-B (pre .writable); long = long-B (pre .writable); room = omega (arith, long-B (pre .writable), pre .long-columns) }
 
 loop-holds : tie.Need-loop-holds Inv-loop μ-loop
-loop-holds c = (search rows-begun, rows-none _ _ _)
+loop-holds c = (search rows-begun, rows-none _ _ _ _)
 
 narrow-requires : tie.Need-narrow-requires Inv-loop μ-loop
 narrow-requires c κs =
@@ -63,16 +70,24 @@ write-row-requires : tie.Need-write-row-requires Inv-loop μ-loop
 write-row-requires c κs =
     let at = turn c .before in
     row-ready (start at .pre) (at .loop .inv .0) (more (turn c)) (lifted at .before .half .ensures) (lifted at .lift-of .ensures)
-    (c .before .before .before .before .row-sums .ensures .long) (at .loop .inv .1 .long)
+    (c .before .before .before .before .add-bias .ensures .long ∙ summed (c .before .before .before .before .before) .row-sums .ensures .long)
+    (at .loop .inv .1 .long)
+
+add-bias-requires : tie.Need-add-bias-requires Inv-loop μ-loop
+add-bias-requires c κs =
+    let at = in-turn c .before in
+    bias-ready (start at .pre .writable) (more (in-turn c)) (summed c .row-sums .ensures .long ∙ at .loop .inv .0 .long-sums)
 
 loop-again : tie.Need-loop-again Inv-loop μ-loop
 loop-again c =
     let at = end c .before in
     let left = more (end c) in
-    let sums = c .before .before .before .before .before .before .before in (
-      search rows-next,
+    let biased = c .before .before .before .before .before .before .before in
+    let sums = summed (biased .before) in (
+      rows-next (at .loop .inv .0) left (sums .before .before .before .before .before .narrow .ensures .long)
+          (biased .add-bias .ensures .long ∙ sums .row-sums .ensures .long),
       rows-more (at .loop .inv .0) left (start at .pre .writable) (sums .before .before .before .before .before .narrow .ensures)
-          (at .before .before .before .before .narrow-columns .ensures) (start at .pre .long-columns) (sums .row-sums .ensures) (at .loop .inv .1)
+          (at .before .before .before .before .narrow-columns .ensures) (start at .pre .long-columns) (sums .row-sums .ensures) (biased .add-bias .ensures) (at .loop .inv .1)
           (c .before .before .write-row .ensures),
     )
 
@@ -88,7 +103,8 @@ write-rows-spec =
     (λ c. omega (arith, limits (c .before .before .before .before .before .pre .writable) .sizes .rows)) (λ c. search needs) (λ c. search needs)
     narrow-columns-requires (λ c κs. search needs) (λ c. search needs) (λ c κs. search needs) (λ c. search needs) loop-holds
     (λ c. omega (arith, room c)) (λ c. omega (arith, room c)) (λ c. omega arith) (λ c. omega arith) (λ c. omega (arith, room c)) narrow-requires
-    (λ c κs. search needs) write-row-requires (λ c. omega (arith, room (end c))) (λ c. omega (arith, room (end c)))
+    (λ c κs. search needs) (λ c. search needs)
+    (λ c. record { fits = product-below 32 (omega arith) (omega arith) }) add-bias-requires write-row-requires (λ c. omega (arith, room (end c))) (λ c. omega (arith, room (end c)))
     (λ c. omega (arith, room (end c))) (λ c. omega (arith, end c .loop-test .taken)) loop-again
     (λ c. c .before .loop .inv .0 .long-line ∙ sym (start (c .before) .pre .long-line)) (λ c. search)
     (λ c. c .before .loop .inv .0 .long-sums ∙ sym (start (c .before) .pre .long-sums)) (λ c. c .before .loop .inv .1 .long) returns)

@@ -8,8 +8,8 @@ use mir.Val.{toZ, ofZ}
 use Rattle.residue.specs.Rules.{modulus, leastResidue}
 use Rattle.residue.specs.Laws.Modulus.{modulus-below, modulus-positive}
 use Rattle.residue.specs.Laws.Residues.{residue-below}
-use Rattle.residue.specs.Laws.Signed.{natural-is, natural-cast, small-fits-wide}
-use Rattle.writer.specs.Laws.Operands.{residue-negative, residue-fits, residue-positive}
+use Rattle.residue.specs.Laws.Signed.{natural-is, natural-cast}
+use Rattle.writer.specs.Laws.Operands.{entry-fits, residue-negative, residue-fits, residue-positive}
 use Rattle.writer.proofs.records.residue.Statement.{statement}
 use Rattle.writer.proofs.records.residue.Tie as tie
 
@@ -31,4 +31,4 @@ residue-spec =
     tie.close
     (tie.spec (λ c κs. search needs) (λ c. omega (arith, c .modulus .ensures, modulus-below)) add-t6
     (λ c. natural-cast (add-t6 c) (negative c) (below _)) (λ c. natural-is (add-t6 c) (negative c))
-    (λ c. natural-cast (small-fits-wide _ (search)) (positive c) (below _)) (λ c. natural-is (small-fits-wide _ (search)) (positive c)))
+    (λ c. natural-cast (entry-fits _ (search)) (positive c) (below _)) (λ c. natural-is (entry-fits _ (search)) (positive c)))

@@ -6,9 +6,9 @@ use borrow.Author.Needs.{needs}
 use lib.IntN.{ℤ, pos, natAbs}
 use lib.ListN.{length, getD}
 use Rattle.residue.specs.Rules.{modulus, leastResidue}
-use Rattle.residue.specs.Laws.Signed.{narrowed-is}
 use Rattle.algebra.specs.Rules.{word}
 use Rattle.writer.specs.Laws.Lines.{lineRecord, line-record}
+use Rattle.writer.specs.Laws.Operands.{entry-read}
 use Rattle.writer.specs.Laws.Writes.{Among, Wrote, wrote-none}
 use Rattle.writer.proofs.records.write_line.Statement.{statement}
 use Rattle.writer.proofs.records.write_line.Tie as tie
@@ -26,7 +26,7 @@ start c = c .before .before .before
 abbrev entry : tie.In-loop Inv-loop μ-loop → ℤ
 entry c = getD (start (c .before) .args .entries .now) (c .before .loop .column) (pos 0)
 
-small : (c : tie.In-loop Inv-loop μ-loop) → natAbs (entry c) < 2 ^ 15
+small : (c : tie.In-loop Inv-loop μ-loop) → natAbs (entry c) < 2 ^ 30
 small c = start (c .before) .pre .entries-small .small (c .before .loop .column) (c .loop-test .taken)
 
 loop-holds : tie.Need-loop-holds Inv-loop μ-loop
@@ -36,7 +36,7 @@ loop-again : tie.Need-loop-again Inv-loop μ-loop
 loop-again c =
     let inside = c .before .before .before .before .before .before in
     let at = inside .before in
-    let value = c .before .before .before .before .residue .ensures ∙ ap (leastResidue modulus) (narrowed-is (entry inside) (small inside)) in (
+    let value = c .before .before .before .before .residue .ensures ∙ ap (leastResidue modulus) (entry-read (entry inside) (small inside)) in (
       omega arith,
       omega (arith, at .loop .inv .1),
       line-record _ _ _ (start at .args .entries .now) (at .loop .inv .2) (c .before .before .write-record .ensures) (search needs) (search needs)
@@ -53,7 +53,7 @@ write-line-spec =
     tie.close
     (tie.spec Inv-loop μ-loop (λ c κs. search needs)
     loop-holds (λ c. omega arith) (λ c. omega arith)
-    (λ c κs. rw (narrowed-is (entry (c .before)) (small (c .before))) (small (c .before)))
+    (λ c κs. rw (entry-read (entry (c .before)) (small (c .before))) (small (c .before)))
     (λ c. omega (arith, start (c .before .before .before .before) .pre .room))
     (λ c κs. let at = c .before .before .before .before in
     omega (arith, at .loop .inv .2 .long, start at .pre .room, c .before .before .before .loop-test .taken))
