@@ -1,5 +1,5 @@
--- The marked examples a to k, under the setting K, with the bytes of record 8 and of the whole written ticket, and -17 over 10: one
--- table that the checker computes over the rules.
+-- The marked examples a to k, under the setting K, with the bytes of record 8 and of the whole written ticket, and -17 over 10, and
+-- then K with a bias: one table that the checker computes over the rules.
 use Prim.Native.Nat.{ℕ, _+_, _-_, _*_, _/_, _%_}
 use mathlib.Core.Path.{_≡_, refl}
 use mathlib.Core.List.{List, [], _∷_, _++_, map}
@@ -8,21 +8,23 @@ use lib.ListN.{take, drop}
 use Rattle.residue.specs.Rules.{modulus, leastResidue, signedEntry}
 use Rattle.algebra.specs.Rules.{sumℤ, matrixProduct, floorDivision}
 use Rattle.ticket.specs.declared.setting.Setting.{Setting}
+use Rattle.ticket.specs.declared.published.PlainSetting.{PlainSetting}
 use Rattle.ticket.specs.declared.Answer.{Answer}
-use Rattle.ticket.specs.Rules.{first, answer, scan, after, firstFailed, sizesWithin, numbersWithin, fits, settingTests, settingNumber, isEntry, shiftedQuotient, parts, part, count, start, records, recordBytes, ticketLength, holder, valueAt, formed, partTests, recordTests, firstRefusal, recordsReading, reading, valueIn, entryA, entryB, quotient, remainder, claim, exactSum, due}
-use Rattle.ticket.specs.Examples.{trueTicket}
+use Rattle.ticket.specs.Rules.{first, answer, scan, after, firstFailed, sizesWithin, numbersWithin, fits, settingTests, settingNumber, isEntry, shiftedQuotient, parts, part, count, start, records, recordBytes, ticketLength, holder, valueAt, formed, partTests, recordTests, firstRefusal, recordsReading, reading, valueIn, entryA, entryB, quotient, remainder, claim, exactSum, biasedSum, due, plain, withBias, biasBound, biasColumns, biasWithin, entryBias}
+use Rattle.ticket.specs.Examples.{trueTicket, biasTicket}
 use Rattle.challenge.specs.Rules.{listNumber, listReading, productB, claimSide, operandSide, balanced, firstRow, verdict, challengeCheck}
 use Rattle.full.specs.Rules.{same, holds, fullVerdict, fullCheck}
-use Rattle.writer.specs.Rules.{joined, operandNumber, operandsReading, writing, quotientOf, remainderOf, integersOf, integerIn, recordOf, ticketRecord, ticketOf}
+use Rattle.writer.specs.Rules.{joined, beyondNumber, operandsReading, writing, quotientOf, remainderOf, integersOf, integerIn, recordOf, ticketRecord, ticketOf}
 
 minus : ℕ → ℤ
 minus n = negℤ (pos n)
 
--- a ticket: the matrices of its four parts, row by row
+-- a ticket: the matrices of its parts, row by row; without a bias, that part is empty
 record Case : Type 0 where
   setting : Setting
   A : List ℤ
   B : List ℤ
+  bias : List ℤ
   quotient : List ℤ
   remainder : List ℤ
 
@@ -38,23 +40,51 @@ ticket : Case → List ℕ
 ticket c =
     recordsFrom 1 (c .setting .inner) 0 (c .A)
     ++ recordsFrom 2 (c .setting .columns) 0 (c .B)
+    ++ recordsFrom 5 (c .setting .columns) 0 (c .bias)
     ++ recordsFrom 3 (c .setting .columns) 0 (c .quotient)
     ++ recordsFrom 4 (c .setting .columns) 0 (c .remainder)
 
--- the setting K, but for the inner size, the scale, the bound and the width
-setting : ℕ → ℕ → ℕ → ℕ → Setting
-setting m α T v = record { rows = 2; inner = m; columns = 2; vectors = 1; scale = α; bound = T; width = v }
+-- the public numbers of K, but for the inner size, the scale, the bound and the width
+numbers : ℕ → ℕ → ℕ → ℕ → PlainSetting
+numbers m α T v = record { rows = 2; inner = m; columns = 2; vectors = 1; scale = α; bound = T; width = v }
 
--- A and B with these quotients and remainders, under K with the bound T
-claiming : ℕ → List ℤ → List ℤ → Case
-claiming T q r =
+-- the setting without a bias, and K with one of bound W
+setting : ℕ → ℕ → ℕ → ℕ → Setting
+setting m α T v = plain (numbers m α T v)
+
+biased : ℕ → Setting
+biased W = withBias (numbers 2 10 8 5) W
+
+-- A and B with this bias and these quotients and remainders, under the setting G
+under : Setting → List ℤ → List ℤ → List ℤ → Case
+under G c q r =
     record {
-      setting = setting 2 10 T 5;
+      setting = G;
       A = pos 3 ∷ minus 2 ∷ pos 5 ∷ pos 4 ∷ [];
       B = minus 1 ∷ pos 6 ∷ pos 7 ∷ minus 8 ∷ [];
+      bias = c;
       quotient = q;
       remainder = r;
     }
+
+-- with no bias, under K with the bound T
+claiming : ℕ → List ℤ → List ℤ → Case
+claiming T = under (setting 2 10 T 5) []
+
+-- with this bias, under K with a bias of bound W, and the claims for -21, 57, 0 and 3
+biasedBy : ℕ → List ℤ → Case
+biasedBy W c = under (biased W) c (minus 3 ∷ pos 5 ∷ pos 0 ∷ pos 0 ∷ []) (pos 9 ∷ pos 7 ∷ pos 0 ∷ pos 3 ∷ [])
+
+-- the bias that makes them true, but for its first and its last entry
+biasOf : ℤ → ℤ → List ℤ
+biasOf z z' = z ∷ pos 23 ∷ minus 23 ∷ z' ∷ []
+
+biasCase : Case
+biasCase = biasedBy 23 (biasOf (minus 4) (pos 5))
+
+-- false in the last column only, by its bias
+falseBias : Case
+falseBias = biasedBy 23 (biasOf (minus 4) (pos 4))
 
 trueRemainders : List ℤ
 trueRemainders = pos 3 ∷ pos 4 ∷ pos 3 ∷ pos 8 ∷ []
@@ -66,11 +96,11 @@ changed q q' = claiming 8 (q ∷ q' ∷ pos 2 ∷ minus 1 ∷ []) trueRemainders
 trueCase : Case
 trueCase = changed (minus 2) (pos 3)
 
--- each with what is expected last: where the parts of a ticket start, and which part each of some records is in; the sums S, with which
--- the claims are compared; what the claims put for them; quotients and remainders, as read; the bytes of a
+-- each with what is expected last: where the parts of a ticket start, and which part each of some records is in; the sums S, or S + c,
+-- with which the claims are compared; what the claims put for them; quotients and remainders, as read; the bytes of a
 -- record; u, for a vector, as signed entries; the two sides, for a vector; the answer of the reading and range checks; the answer
--- of the challenge check; that of the full check; that of the writer for an output of 128 bytes, and the ticket; the number of a
--- setting; an integer over a number, rounded down
+-- of the challenge check; that of the full check; that of the writer for an output of so many bytes; the written ticket; the number of
+-- a setting; an integer over a number, rounded down
 data Example : Type 0 where
   starts : Setting → List ℕ → Example
   held : Setting → List ℕ → List ℕ → Example
@@ -83,15 +113,16 @@ data Example : Type 0 where
   reads : Case → Answer → Example
   checks : Case → List ℕ → Answer → Example
   checksAll : Case → Answer → Example
-  writes : Case → Answer → List ℕ → Example
+  answers : Case → ℕ → Answer → Example
+  writes : Case → List ℕ → Example
   limits : Setting → ℕ → Example
   floors : ℤ → ℕ → ℤ → Example
 
 examples : List Example
 examples =
-    -- the layout under K: A, B, the quotients, the remainders, and past them
-    starts (setting 2 10 8 5) (0 ∷ 4 ∷ 8 ∷ 12 ∷ 16 ∷ [])
-    ∷ held (setting 2 10 8 5) (0 ∷ 3 ∷ 4 ∷ 8 ∷ 12 ∷ 15 ∷ []) (0 ∷ 0 ∷ 1 ∷ 2 ∷ 3 ∷ 3 ∷ [])
+    -- the layout under K: A, B, no bias, the quotients, the remainders, and past them
+    starts (setting 2 10 8 5) (0 ∷ 4 ∷ 8 ∷ 8 ∷ 12 ∷ 16 ∷ [])
+    ∷ held (setting 2 10 8 5) (0 ∷ 3 ∷ 4 ∷ 8 ∷ 12 ∷ 15 ∷ []) (0 ∷ 0 ∷ 1 ∷ 3 ∷ 4 ∷ 4 ∷ [])
     -- a
     ∷ sums trueCase (minus 17 ∷ pos 34 ∷ pos 23 ∷ minus 2 ∷ [])
     -- b
@@ -124,9 +155,41 @@ examples =
     ∷ limits (setting 1 65_536 1 14) 0
     ∷ limits (setting 1 65_536 1 15) 3
     -- the written ticket, and rounding down
-    ∷ writes trueCase (answer 0 128 0 8) trueTicket
+    ∷ answers trueCase 128 (answer 0 128 0 8)
+    ∷ writes trueCase trueTicket
     ∷ floors (minus 17) 10 (minus 2)
     ∷ floors (pos 34) 10 (pos 3)
+    -- K with a bias: W = 23 fits, W = 24 does not, nor does W = 2^30, which is no 17
+    ∷ limits (biased 23) 0
+    ∷ limits (biased 24) 3
+    ∷ limits (biased 1_073_741_824) 3
+    ∷ limits (biased 1_073_741_825) 17
+    ∷ starts (biased 23) (0 ∷ 4 ∷ 8 ∷ 12 ∷ 16 ∷ 20 ∷ [])
+    ∷ held (biased 23) (3 ∷ 4 ∷ 8 ∷ 11 ∷ 12 ∷ 16 ∷ 19 ∷ []) (0 ∷ 1 ∷ 2 ∷ 2 ∷ 3 ∷ 4 ∷ 4 ∷ [])
+    -- a true ticket: -17 - 4, 34 + 23, 23 - 23 and -2 + 5
+    ∷ sums biasCase (minus 21 ∷ pos 57 ∷ pos 0 ∷ pos 3 ∷ [])
+    ∷ claims biasCase (minus 21 ∷ pos 57 ∷ pos 0 ∷ pos 3 ∷ [])
+    ∷ bytes biasCase 8 (0x05 ∷ 0x00 ∷ 0x00 ∷ 0x00 ∷ 0xFB ∷ 0xFF ∷ 0xFF ∷ 0x7F ∷ [])
+    ∷ answers biasCase 160 (answer 0 160 0 8)
+    ∷ writes biasCase biasTicket
+    ∷ sides biasCase (1 ∷ 2 ∷ []) (93 ∷ 6 ∷ []) (93 ∷ 6 ∷ [])
+    ∷ checks biasCase (1 ∷ 2 ∷ []) (answer 0 0 0 16)
+    ∷ checksAll biasCase (answer 0 0 0 8)
+    -- one that is false in the last column only, through its bias: 3 is claimed for -2 + 4
+    ∷ reads falseBias (answer 0 0 0 0)
+    ∷ sums falseBias (minus 21 ∷ pos 57 ∷ pos 0 ∷ pos 2 ∷ [])
+    ∷ sides falseBias (1 ∷ 2 ∷ []) (93 ∷ 6 ∷ []) (93 ∷ 4 ∷ [])
+    ∷ checks falseBias (1 ∷ 2 ∷ []) (answer 12 0 1 16)
+    ∷ checks falseBias (1 ∷ 0 ∷ []) (answer 0 0 0 16)
+    ∷ checksAll falseBias (answer 16 3 0 8)
+    -- 18: an entry of 24; a plain ticket, and the other way round; the writer's 13, 18 and 15
+    ∷ reads (biasedBy 23 (biasOf (minus 24) (pos 5))) (answer 18 8 0 0)
+    ∷ reads (biasedBy 23 (biasOf (minus 4) (pos 24))) (answer 18 11 0 0)
+    ∷ reads (biasedBy 23 []) (answer 4 0 0 0)
+    ∷ reads (under (setting 2 10 8 5) (biasOf (minus 4) (pos 5)) (pos 0 ∷ pos 0 ∷ pos 0 ∷ pos 0 ∷ []) []) (answer 5 8 0 0)
+    ∷ answers (biasedBy 23 []) 160 (answer 13 2 0 0)
+    ∷ answers (biasedBy 23 (biasOf (minus 4) (pos 24))) 160 (answer 18 11 0 0)
+    ∷ answers biasCase 159 (answer 15 0 0 0)
     ∷ []
 
 -- of each claim, row by row
@@ -134,7 +197,7 @@ each : (ℕ → ℕ → ℤ) → List ℤ
 each f = f 0 0 ∷ f 0 1 ∷ f 1 0 ∷ f 1 1 ∷ []
 
 by-rules : Example → Example
-by-rules (starts G _) = starts G (map (start G) (0 ∷ 1 ∷ 2 ∷ 3 ∷ 4 ∷ []))
+by-rules (starts G _) = starts G (map (start G) (0 ∷ 1 ∷ 2 ∷ 3 ∷ 4 ∷ 5 ∷ []))
 by-rules (held G ks _) = held G ks (map (holder (parts G)) ks)
 by-rules (sums c _) = sums c (each (due (c .setting) (ticket c)))
 by-rules (claims c _) = claims c (each (claim (c .setting) (ticket c)))
@@ -146,15 +209,16 @@ by-rules (sides c x _ _) =
 by-rules (reads c _) = reads c (reading (c .setting) (ticket c))
 by-rules (checks c x _) = checks c x (challengeCheck (c .setting) (ticket c) x)
 by-rules (checksAll c _) = checksAll c (fullCheck (c .setting) (ticket c))
-by-rules (writes c _ _) = writes c (writing (c .setting) (c .A) (c .B) 128) (ticketOf (c .setting) (c .A) (c .B))
+by-rules (answers c n _) = answers c n (writing (c .setting) (c .A) (c .B) (c .bias) n)
+by-rules (writes c _) = writes c (ticketOf (c .setting) (c .A) (c .B) (c .bias))
 by-rules (limits G _) = limits G (settingNumber G)
 by-rules (floors z d _) = floors z d (floorDivision z d)
 
 examples-hold : map by-rules examples ≡ examples
 unfolding modulus leastResidue signedEntry sumℤ matrixProduct floorDivision first scan after firstFailed sizesWithin numbersWithin fits
     settingTests isEntry shiftedQuotient parts part count start records ticketLength holder valueAt formed partTests recordTests firstRefusal
-    recordsReading reading valueIn entryA entryB quotient remainder claim exactSum due listNumber listReading productB claimSide operandSide
-    balanced firstRow verdict challengeCheck same holds fullVerdict fullCheck joined operandNumber operandsReading writing quotientOf
-    remainderOf integersOf integerIn recordOf ticketRecord ticketOf minus recordsFrom ticket setting claiming trueRemainders trueCase changed
-    trueTicket examples each by-rules
+    recordsReading reading valueIn entryA entryB quotient remainder claim exactSum biasedSum biasBound biasColumns biasWithin entryBias listNumber listReading productB claimSide operandSide
+    balanced firstRow verdict challengeCheck same holds fullVerdict fullCheck joined beyondNumber operandsReading writing quotientOf
+    remainderOf integersOf integerIn recordOf ticketRecord ticketOf minus recordsFrom ticket numbers setting biased under claiming biasedBy biasOf biasCase falseBias trueRemainders trueCase changed
+    trueTicket biasTicket examples each by-rules
 examples-hold = refl

@@ -13,29 +13,56 @@ use native.Mathlib.Omega.{arith}
 use mathlib.Core.Path.{_≡_, refl, sym, ap, _∙_}
 use mathlib.Core.Logic.{⊎-elim, _↔_}
 use mathlib.Core.List.{List, _++_}
-use lib.IntN.{ℤ}
-use lib.ListN.{length, drop, length-append, length-drop}
+use lib.IntN.{ℤ, pos, natAbs}
+use lib.ListN.{length, getD, drop, length-append, length-drop}
 use Rattle.ticket.specs.declared.setting.Setting.{Setting}
 use Rattle.ticket.specs.declared.Answer.{Answer}
-use Rattle.ticket.specs.Rules.{answer, refusal, settingTests, part, partSize, ofA, ofB, ticketLength}
+use Rattle.ticket.specs.Rules.{answer, refusal, settingTests, part, partSize, ofA, ofB, ofBias, biasBound, biasColumns, ticketLength}
 use Rattle.ticket.specs.Laws.Layout.{parts-are}
-use Rattle.ticket.specs.Laws.Limits.{setting-numbered}
+use Rattle.ticket.specs.Laws.Limits.{setting-numbered, SettingRow, setting-in-table}
 use Rattle.ticket.specs.Laws.Scans.{zeros-or-first}
-use Rattle.ticket.specs.Laws.Tests.{AllHold, hold-or-failed, failed-within}
-use Rattle.writer.specs.Rules.{operandNumber, written, writing, ticketOf, outputAfter}
-use Rattle.writer.specs.Laws.Answers.{Writable, WriterAnswered, setting-failed, length-A-wrong, length-B-wrong, operand-beyond, output-short, ticket-written, writable, writing-of, output-refused, output-written}
+use Rattle.ticket.specs.Laws.Tests.{AllHold, hold-or-failed, failed-numbered}
+use Rattle.writer.specs.Rules.{beyondNumber, written, writing, ticketOf, outputAfter}
+use Rattle.writer.specs.Laws.Answers.{Writable, Lengths, WriterAnswered, setting-failed, length-A-wrong, length-B-wrong, length-C-wrong, operand-beyond, bias-beyond, output-short, ticket-written, writable, writing-of, output-refused, output-written}
 use Rattle.writer.specs.Laws.Operands.{within-of, beyond-of}
 use Rattle.writer.specs.Laws.Records.{length-ticketOf}
 
 pub data WriterRow (G : Setting) : Answer → Type 0 where
   written-row : WriterRow G (answer 0 (ticketLength G) 0 (G .rows * G .inner * G .columns))
-  setting-row : (c : ℕ) → 1 ≤ c → c ≤ 3 → WriterRow G (answer c 0 0 0)
-  operand-length-row : (k : ℕ) → k ≤ 1 → WriterRow G (answer 13 k 0 0)
+  by-setting-row : {c : ℕ} → SettingRow G c → WriterRow G (answer c 0 0 0)
+  operand-length-row : (k : ℕ) → k ≤ 2 → WriterRow G (answer 13 k 0 0)
   operand-row : (k : ℕ) → k < G .rows * G .inner + G .inner * G .columns → WriterRow G (answer 14 k 0 0)
+  bias-row : (k : ℕ) → k < G .rows * biasColumns G → WriterRow G (answer 18 (G .rows * G .inner + G .inner * G .columns + k) 0 0)
   output-length-row : WriterRow G (answer 15 0 0 0)
 
 module _ (G : Setting) (A B C : List ℤ) where
   module _ (size : ℕ) where
+    answered-output : Writable G A B C → (a : Answer) × WriterAnswered G A B C size a
+    answered-output w =
+        elim (decLe (ticketLength G) size) [
+          | yes l ↦ (written G, ticket-written w l)
+          | no l ↦ (refusal 15 0, output-short w (omega arith))
+        ]
+
+    answered-entries : AllHold (settingTests G) → Lengths G A B C → (a : Answer) × WriterAnswered G A B C size a
+    answered-entries s long =
+        ⊎-elim
+        (λ z. let within : (k : ℕ) → k < length (A ++ B) → natAbs (getD (A ++ B) k (pos 0)) ≤ G .bound = λ k l. within-of (G .bound) 14 (A ++ B) (omega arith) k (z k l) in
+        ⊎-elim
+        (λ y. answered-output (writable G A B C s long within (λ k l. within-of (biasBound G) 18 C (omega arith) k (y k l))))
+        (λ o. (
+          refusal 18 (length (A ++ B) + o .0),
+          bias-beyond s long within (o .1 .within) (λ i l. within-of (biasBound G) 18 C (omega arith) i (o .1 .before i l))
+              (beyond-of (biasBound G) 18 C (o .0) (o .1 .other)),
+        ))
+        (zeros-or-first (length C) (beyondNumber (biasBound G) 18 C)))
+        (λ o. (
+          refusal 14 (o .0),
+          operand-beyond s long (omega (arith, length-append A B, o .1 .within))
+              (λ i l. within-of (G .bound) 14 (A ++ B) (omega arith) i (o .1 .before i l)) (beyond-of (G .bound) 14 (A ++ B) (o .0) (o .1 .other)),
+        ))
+        (zeros-or-first (length (A ++ B)) (beyondNumber (G .bound) 14 (A ++ B)))
+
     answered-operands : AllHold (settingTests G) → (a : Answer) × WriterAnswered G A B C size a
     answered-operands s =
         elim (ℕ-discrete (length A) (partSize (part G ofA))) [
@@ -44,18 +71,10 @@ module _ (G : Setting) (A B C : List ℤ) where
               elim (ℕ-discrete (length B) (partSize (part G ofB))) [
                 | no d ↦ (refusal 13 1, length-B-wrong s e d)
                 | yes f ↦
-                    ⊎-elim
-                    (λ z. let w : Writable G A B C = writable G A B C s e f (λ k l. within-of G (A ++ B) k (z k l)) in
-                    elim (decLe (ticketLength G) size) [
-                      | yes l ↦ (written G, ticket-written w l)
-                      | no l ↦ (refusal 15 0, output-short w (omega arith))
-                    ])
-                    (λ o. (
-                      refusal 14 (o .0),
-                      operand-beyond s e f (omega (arith, length-append A B, o .1 .within))
-                          (λ i l. within-of G (A ++ B) i (o .1 .before i l)) (beyond-of G (A ++ B) (o .0) (o .1 .other)),
-                    ))
-                    (zeros-or-first (length (A ++ B)) (operandNumber G (A ++ B)))
+                    elim (ℕ-discrete (length C) (partSize (part G ofBias))) [
+                      | no d ↦ (refusal 13 2, length-C-wrong s e f d)
+                      | yes g ↦ answered-entries s (record { of-A = e; of-B = f; of-C = g })
+                    ]
               ]
         ]
 
@@ -70,10 +89,14 @@ module _ (G : Setting) (A B C : List ℤ) where
     )
 
     row-of : {a : Answer} → WriterAnswered G A B C size a → WriterRow G a
-    row-of (setting-failed {c} f) = let n = failed-within (settingTests G) (setting-numbered G) f in setting-row c (n .0) (n .1)
+    row-of (setting-failed f) = by-setting-row (setting-in-table G f)
     row-of (length-A-wrong s d) = operand-length-row 0 (omega arith)
     row-of (length-B-wrong s e d) = operand-length-row 1 (omega arith)
-    row-of (operand-beyond {k} s e f l h m) = operand-row k (omega (arith, parts-are G .size-A, parts-are G .size-B))
+    row-of (length-C-wrong s e f d) = operand-length-row 2 (omega arith)
+    row-of (operand-beyond {k} s long l h m) = operand-row k (omega (arith, long, parts-are G))
+    row-of (bias-beyond {k} s long h l before m) =
+        let place : length (A ++ B) ≡ G .rows * G .inner + G .inner * G .columns = omega (arith, length-append A B, long, parts-are G) in
+        rw place (bias-row k (omega (arith, long, parts-are G)))
     row-of (output-short w l) = output-length-row
     row-of (ticket-written w l) = written-row
 
@@ -81,10 +104,12 @@ module _ (G : Setting) (A B C : List ℤ) where
     writing-in-table = row-of (writing-exactly (writing G A B C size) .0 refl)
 
     written-of : {a : Answer} → WriterAnswered G A B C size a → a .number ≡ 0 → Writable G A B C × (ticketLength G ≤ size)
-    written-of (setting-failed f) z = absurd (omega (arith, failed-within (settingTests G) (setting-numbered G) f))
+    written-of (setting-failed f) z = absurd (omega (arith, failed-numbered (settingTests G) (setting-numbered G) f))
     written-of (length-A-wrong s d) z = absurd (omega arith)
     written-of (length-B-wrong s e d) z = absurd (omega arith)
-    written-of (operand-beyond s e f l h m) z = absurd (omega arith)
+    written-of (length-C-wrong s e f d) z = absurd (omega arith)
+    written-of (operand-beyond s long l h m) z = absurd (omega arith)
+    written-of (bias-beyond s long h l before m) z = absurd (omega arith)
     written-of (output-short w l) z = absurd (omega arith)
     written-of (ticket-written w l) z = (w, l)
 

@@ -1,20 +1,20 @@
 -- The written ticket is accepted by the full check and, with every well-formed list, by the challenge check (W3), and is the only
 -- ticket of its operands that the full check accepts (W4).
 --
---   size-quotientOf          the quotient of an exact sum is at least -2^(v - 1) and below 2^(v - 1)
+--   size-quotientOf          the quotient of what a claim is made for is at least -2^(v - 1) and below 2^(v - 1)
 --   in-range                 the least residue of what a record stands for is in the range of its part
 --   ticket-passes            the written ticket passes the reading and range checks
---   written-A, written-B, written-quotient, written-remainder, written-sum   what its records stand for, and their exact sums
+--   written-A, written-B, written-bias, written-quotient, written-remainder, written-sum   what its records stand for, and S + c
 --   written-true             it is false in no column
 --   written-accepted         the full check accepts it (W3)
 --   written-challenge-accepted   with it a list is accepted exactly when it is well formed (W3)
---   only-ticket              a ticket of the same A and B that the full check accepts is equal to it, byte for byte (W4)
+--   only-ticket              a ticket of the same A, B and bias that the full check accepts is equal to it, byte for byte (W4)
 use Prim.Native.Nat.{ℕ, zero, suc, _+_, _-_, _*_, _/_, _%_, _^_, _≤_, _<_}
 use native.Mathlib.Nat.{mul-le-mul-left, mod-lt, div-add-mod}
 use native.Mathlib.Decide.{decLe}
 use native.Mathlib.Omega.{arith}
 use mathlib.Core.Path.{_≡_, refl, sym, ap, _∙_}
-use mathlib.Core.Logic.{_↔_}
+use mathlib.Core.Logic.{_↔_, ⊎-elim}
 use mathlib.Core.Bool.{true}
 use mathlib.Core.List.{List}
 use borrow.Author.Tests.{le-leb, lt-ltb}
@@ -31,10 +31,11 @@ use Rattle.algebra.specs.Laws.FloorDivision.{floor-left, floor-unique}
 use Rattle.algebra.specs.Laws.IntegerSums.{size-difference}
 use Rattle.algebra.specs.Laws.MatrixProducts.{matrixProduct-cong}
 use Rattle.ticket.specs.declared.setting.Setting.{Setting}
-use Rattle.ticket.specs.Rules.{reach, halfRange, lift, parts, part, start, records, recordBytes, ofA, ofB, ofQuotients, ofRemainders, recordTests, Passes, FalseIn, byteAt, valueAt, valueIn, entryA, entryB, quotient, remainder, exactSum, due}
-use Rattle.ticket.specs.Laws.Differences.{claim-is, due-is, exactSum-is, size-entryA, size-entryB, size-quotient, small-remainder, residue-entryA, residue-entryB, residue-quotient, residue-remainder, claims-true}
-use Rattle.ticket.specs.Laws.Layout.{located-at, tests-located, value-in, part-A, part-B, part-quotients, part-remainders, range-A, range-B, range-quotients, range-remainders, every-part}
-use Rattle.ticket.specs.Laws.Limits.{counts, half-small, half-double, lift-small}
+use Rattle.ticket.specs.Rules.{reach, halfRange, lift, parts, part, start, records, recordBytes, ofA, ofB, ofBias, ofQuotients, ofRemainders, biasBound, biasColumns, recordTests, Passes, FalseIn, byteAt, valueAt, valueIn, entryA, entryB, entryBias, quotient, remainder, biasedSum, due}
+use Rattle.ticket.specs.Laws.Differences.{claim-is, biasedSum-is, no-bias-entry, size-entryA, size-entryB, size-bias, residue-bias, size-quotient, small-remainder, residue-entryA, residue-entryB, residue-quotient, residue-remainder, claims-true}
+use Rattle.ticket.specs.Laws.Layout.{located-at, tests-located, value-in, part-A, part-B, part-bias, part-quotients, part-remainders, range-A, range-B, range-bias, range-quotients, range-remainders, every-part}
+use Rattle.ticket.specs.Laws.Limits.{counts, with-bias, bias-there, bias-small, half-small, half-double, lift-small}
+use Rattle.ticket.specs.Laws.First.{true-or-false}
 use Rattle.ticket.specs.Laws.Passes.{Passed, passed-of, passes-of, record-formed}
 use Rattle.ticket.specs.Laws.Tests.{AllHold, none, one}
 use Rattle.challenge.specs.Rules.{Accepted, WellFormed}
@@ -43,7 +44,7 @@ use Rattle.full.specs.Rules.{fullCheck, fullAccepted, FullAccepted}
 use Rattle.writer.specs.Rules.{writing, entryOf, sumFor, quotientOf, remainderOf, recordOf, integersOf, integerIn, ticketOf}
 use Rattle.writer.specs.Laws.Answers.{Writable}
 use Rattle.writer.specs.Laws.Claims.{claim-sum, remainder-left}
-use Rattle.writer.specs.Laws.Entries.{limits, size-A, size-B, size-sumFor}
+use Rattle.writer.specs.Laws.Entries.{limits, size-A, size-B, size-C, no-bias, size-sumFor}
 use Rattle.writer.specs.Laws.Records.{record-read, length-records, length-ticketOf, ticket-record-at, ticket-formed, ticket-value, value-in-ticket}
 use Rattle.exactness.specs.Laws.Full.{full-accepted-true, full-accepted-number}
 use Rattle.exactness.specs.Laws.Writer.{writable-of}
@@ -75,10 +76,12 @@ size-of-parts (pos n) h = omega arith
 size-of-parts (negsuc n) h = omega arith
 
 -- equal entries have equal sums
-same-sums : (G : Setting) (A A' B B' : ℕ → ℕ → ℤ) (i j : ℕ) → ((k : ℕ) → k < G .inner → A i k ≡ A' i k)
-    → ((k : ℕ) → k < G .inner → B k j ≡ B' k j) → exactSum G A B i j ≡ exactSum G A' B' i j
-same-sums G A A' B B' i j row column =
-    exactSum-is G A B i j ∙ matrixProduct-cong (G .inner) A A' B B' i j row column ∙ sym (exactSum-is G A' B' i j)
+same-sums : (G : Setting) (A A' B B' C C' : ℕ → ℕ → ℤ) (i j : ℕ) → ((k : ℕ) → k < G .inner → A i k ≡ A' i k)
+    → ((k : ℕ) → k < G .inner → B k j ≡ B' k j) → C i j ≡ C' i j → biasedSum G A B C i j ≡ biasedSum G A' B' C' i j
+same-sums G A A' B B' C C' i j row column bias =
+    biasedSum-is G A B C i j
+    ∙ cc (matrixProduct-cong (G .inner) A A' B B' i j row column, bias)
+    ∙ sym (biasedSum-is G A' B' C' i j)
 
 module _ {G : Setting} {A B C : List ℤ} (w : Writable G A B C) where
   module _ (i j : ℕ) (l : i < G .rows) (m : j < G .columns) where
@@ -104,19 +107,21 @@ module _ {G : Setting} {A B C : List ℤ} (w : Writable G A B C) where
         ∙ ap (leastResidue modulus) (equal-of-parts (q +ℤ pos half) (pos m) (omega (arith, parts-sum q (pos half), size-quotientOf)))
         ∙ residue-of-residue modulus modulus-positive m (omega (arith, size-quotientOf))
 
-  small : 2 * G .bound < modulus
-  small = omega (arith, limits w .numbers .bound, modulus-above)
+  small : (2 * G .bound < modulus) × (2 * biasBound G < modulus)
+  small = (omega (arith, limits w .numbers .bound, modulus-above), bias-small (limits w .numbers) (limits w .fitted))
 
-  -- an operand is the signed entry of its least residue
-  entry-range : (z : ℤ) → natAbs z ≤ G .bound → leb (natAbs (signedEntry modulus (leastResidue modulus z))) (G .bound) ≡ true
-  entry-range z l = rw (entry-of-residue modulus modulus-positive z (omega (arith, small))) (le-leb (natAbs z) (G .bound) l)
+  -- a number within its bound is the signed entry of its least residue
+  entry-range : (bound : ℕ) → 2 * bound < modulus → (z : ℤ) → natAbs z ≤ bound
+      → leb (natAbs (signedEntry modulus (leastResidue modulus z))) bound ≡ true
+  entry-range bound few z l = rw (entry-of-residue modulus modulus-positive z (omega arith)) (le-leb (natAbs z) bound l)
 
   pub in-range : (n i j : ℕ) → n < length (parts G) → i < part G n .rows → j < part G n .columns
       → part G n .range (leastResidue modulus (integerIn G A B C n i j)) ≡ true
   unfolding integersOf integerIn
   in-range =
       every-part G (λ n i j. part G n .range (leastResidue modulus (integerIn G A B C n i j)) ≡ true)
-      (λ i j l m. range-A G _ ∙ entry-range _ (size-A w i j l m)) (λ i j l m. range-B G _ ∙ entry-range _ (size-B w i j l m))
+      (λ i j l m. range-A G _ ∙ entry-range _ (small .0) _ (size-A w i j l m)) (λ i j l m. range-B G _ ∙ entry-range _ (small .0) _ (size-B w i j l m))
+      (λ i j l m. range-bias G _ ∙ entry-range _ (small .1) _ (size-C w i j l (bias-there G m .1)))
       (λ i j l m. let q = quotientOf G A B C i j in
       range-quotients G _ ∙ rw (shifted-is i j l m)
       (lt-ltb (positive q + halfRange G - negative q) _ (omega (arith, size-quotientOf i j l m, half-double {G = G} (limits w .numbers)))))
@@ -147,16 +152,26 @@ module _ {G : Setting} {A B C : List ℤ} (w : Writable G A B C) where
   pub written-A : (i k : ℕ) → i < G .rows → k < G .inner → entryA G (ticketOf G A B C) i k ≡ entryOf (G .inner) A i k
   unfolding integersOf integerIn
   written-A i k l m =
-      equal-small (G .bound) (size-entryA passed i k l m) (size-A w i k l m) small
+      equal-small (G .bound) (size-entryA passed i k l m) (size-A w i k l m) (small .0)
       (residue-entryA passed i k l m ∙ value-in-ticket G A B C ofA i k (rw (part-A G .rows-are) l) (rw (part-A G .columns-are) m))
 
   pub written-B : (k j : ℕ) → k < G .inner → j < G .columns → entryB G (ticketOf G A B C) k j ≡ entryOf (G .columns) B k j
   unfolding integersOf integerIn
   written-B k j l m =
-      equal-small (G .bound) (size-entryB passed k j l m) (size-B w k j l m) small
+      equal-small (G .bound) (size-entryB passed k j l m) (size-B w k j l m) (small .0)
       (residue-entryB passed k j l m ∙ value-in-ticket G A B C ofB k j (rw (part-B G .rows-are) l) (rw (part-B G .columns-are) m))
 
   module _ (i j : ℕ) (l : i < G .rows) (m : j < G .columns) where
+    pub written-bias : entryBias G (ticketOf G A B C) i j ≡ entryOf (biasColumns G) C i j
+    unfolding integersOf integerIn
+    written-bias =
+        ⊎-elim
+        (λ e. let there : j < biasColumns G = omega (arith, with-bias G e .1) in
+        equal-small (biasBound G) (size-bias passed i j l m) (size-C w i j l m) (small .1)
+        (residue-bias passed i j l there ∙ value-in-ticket G A B C ofBias i j (rw (part-bias G .rows-are) l) (rw (part-bias G .columns-are) there)))
+        (λ e. no-bias-entry G (ticketOf G A B C) i j e ∙ sym (no-bias w e (i * biasColumns G + j)))
+        (true-or-false (G .biased))
+
     pub written-quotient : quotient G (ticketOf G A B C) i j ≡ quotientOf G A B C i j
     unfolding integersOf integerIn
     written-quotient =
@@ -177,7 +192,7 @@ module _ {G : Setting} {A B C : List ℤ} (w : Writable G A B C) where
 
     pub written-sum : due G (ticketOf G A B C) i j ≡ sumFor G A B C i j
     written-sum =
-        due-is G (ticketOf G A B C) i j ∙ same-sums G _ _ _ _ i j (λ k h. written-A i k l h) (λ k h. written-B k j h m)
+        same-sums G _ _ _ _ _ _ i j (λ k h. written-A i k l h) (λ k h. written-B k j h m) written-bias
 
   pub written-true : (j : ℕ) → FalseIn G (ticketOf G A B C) j → ⊥
   written-true j f =
@@ -199,16 +214,17 @@ written-challenge-accepted G A B C size e =
     let w = writable-of G A B C size e in
     accepted-exactly-well-formed G (ticketOf G A B C) (ticket-passes w) (written-true w)
 
--- a ticket of bytes that the full check accepts and that has the same A and B
+-- a ticket of bytes that the full check accepts and that has the same A, B and bias
 module _ (G : Setting) (A B C : List ℤ) (t : List ℕ) (bytes : (k : ℕ) → getD t k 0 < 256)
     (passed : Passed G t) (none : (j : ℕ) → FalseIn G t j → ⊥)
     (same-A : (i k : ℕ) → i < G .rows → k < G .inner → entryA G t i k ≡ entryOf (G .inner) A i k)
-    (same-B : (k j : ℕ) → k < G .inner → j < G .columns → entryB G t k j ≡ entryOf (G .columns) B k j) where
+    (same-B : (k j : ℕ) → k < G .inner → j < G .columns → entryB G t k j ≡ entryOf (G .columns) B k j)
+    (same-C : (i j : ℕ) → i < G .rows → j < G .columns → entryBias G t i j ≡ entryOf (biasColumns G) C i j) where
   module _ (i j : ℕ) (l : i < G .rows) (m : j < G .columns) where
     same-sum : pos (G .scale) *ℤ quotient G t i j +ℤ remainder G t i j ≡ sumFor G A B C i j
     same-sum =
-        sym (claim-is G t i j) ∙ claims-true G t none i j l m ∙ due-is G t i j
-        ∙ same-sums G _ _ _ _ i j (λ k h. same-A i k l h) (λ k h. same-B k j h m)
+        sym (claim-is G t i j) ∙ claims-true G t none i j l m
+        ∙ same-sums G _ _ _ _ _ _ i j (λ k h. same-A i k l h) (λ k h. same-B k j h m) (same-C i j l m)
 
     same-quotient : quotient G t i j ≡ quotientOf G A B C i j
     unfolding quotientOf
@@ -230,6 +246,7 @@ module _ (G : Setting) (A B C : List ℤ) (t : List ℕ) (bytes : (k : ℕ) → 
       every-part G (λ n i j. valueIn G t n i j ≡ leastResidue modulus (integerIn G A B C n i j))
       (λ i j l m. sym (residue-entryA passed i j l m) ∙ ap (leastResidue modulus) (same-A i j l m))
       (λ i j l m. sym (residue-entryB passed i j l m) ∙ ap (leastResidue modulus) (same-B i j l m))
+      (λ i j l m. sym (residue-bias passed i j l m) ∙ ap (leastResidue modulus) (same-C i j l (bias-there G m .1)))
       (λ i j l m. sym (residue-quotient passed i j l m) ∙ ap (leastResidue modulus) (same-quotient i j l m))
       (λ i j l m. sym (residue-remainder passed i j l m) ∙ ap (leastResidue modulus) (same-remainder i j l m))
 
@@ -251,7 +268,8 @@ module _ (G : Setting) (A B C : List ℤ) (t : List ℕ) (bytes : (k : ℕ) → 
 pub only-ticket : (G : Setting) (A B C : List ℤ) (t : List ℕ) → ((k : ℕ) → getD t k 0 < 256) → FullAccepted G t
     → ((i k : ℕ) → i < G .rows → k < G .inner → entryA G t i k ≡ entryOf (G .inner) A i k)
     → ((k j : ℕ) → k < G .inner → j < G .columns → entryB G t k j ≡ entryOf (G .columns) B k j)
+    → ((i j : ℕ) → i < G .rows → j < G .columns → entryBias G t i j ≡ entryOf (biasColumns G) C i j)
     → t ≡ ticketOf G A B C
-only-ticket G A B C t bytes accepted same-A same-B =
+only-ticket G A B C t bytes accepted same-A same-B same-C =
     let h = full-accepted-true G t .0 accepted in
-    same-ticket G A B C t bytes (passed-of G t (h .0)) (h .1) same-A same-B
+    same-ticket G A B C t bytes (passed-of G t (h .0)) (h .1) same-A same-B same-C
