@@ -1,38 +1,77 @@
 // The calls for programs in C, C++ and Rust, under the names of include/dikdumar.h. Each has the contract of the call that it hands
-// its arguments to.
+// its arguments to, for a setting without a bias or with one.
 ghost use mathlib.Core.Path.{_≡_};
+ghost use mathlib.Core.List.{[]};
 ghost use lib.ListN.{length};
+ghost use Rattle.ticket.specs.Rules.{plain, withBias};
 ghost use Rattle.challenge.specs.Rules.{challengeCheck};
 ghost use Rattle.full.specs.Rules.{fullCheck};
 ghost use Rattle.writer.specs.Rules.{outputAfter, writing};
 use ticket::Answer;
-use ticket::Setting;
+use ticket::BiasSetting;
+use ticket::PlainSetting;
 
 mod residues;
 
 #[no_mangle]
-pub extern "C" fn dikdumar_challenge_check(setting: Setting, ticket: &[u8], list: &[u32]) -> Answer
-    ensures { λ r. ⌜ r ≡ challengeCheck setting (now (ticket .entry)) (now (list .entry)) ⌝ }
+pub extern "C" fn dikdumar_challenge_check(
+    setting: PlainSetting,
+    ticket: &[u8],
+    list: &[u32],
+) -> Answer
+    ensures { λ r. ⌜ r ≡ challengeCheck (plain setting) (now (ticket .entry)) (now (list .entry)) ⌝ }
 {
-    challenge::check(setting, ticket, list)
+    challenge::check(setting.plain(), ticket, list)
 }
 
 #[no_mangle]
-pub extern "C" fn dikdumar_full_check(setting: Setting, ticket: &[u8]) -> Answer
-    ensures { λ r. ⌜ r ≡ fullCheck setting (now (ticket .entry)) ⌝ }
+pub extern "C" fn dikdumar_full_check(setting: PlainSetting, ticket: &[u8]) -> Answer
+    ensures { λ r. ⌜ r ≡ fullCheck (plain setting) (now (ticket .entry)) ⌝ }
 {
-    full::check(setting, ticket)
+    full::check(setting.plain(), ticket)
 }
 
 #[no_mangle]
 pub extern "C" fn dikdumar_write_ticket(
-    setting: Setting,
+    setting: PlainSetting,
     a: &[i32],
     b: &[i32],
     output: &mut [u8],
 ) -> Answer
-    ensures { λ r. ⌜ (r ≡ writing setting (now (a .entry)) (now (b .entry)) (length (now (output .entry))))
-        × (now (output .exit) ≡ outputAfter setting (now (a .entry)) (now (b .entry)) (now (output .entry))) ⌝ }
+    ensures { λ r. ⌜ (r ≡ writing (plain setting) (now (a .entry)) (now (b .entry)) [] (length (now (output .entry))))
+        × (now (output .exit) ≡ outputAfter (plain setting) (now (a .entry)) (now (b .entry)) [] (now (output .entry))) ⌝ }
 {
-    writer::write(setting, a, b, output)
+    writer::write(setting.plain(), a, b, &a[..0], output)
+}
+
+#[no_mangle]
+pub extern "C" fn dikdumar_bias_challenge_check(
+    setting: BiasSetting,
+    ticket: &[u8],
+    list: &[u32],
+) -> Answer
+    ensures { λ r. ⌜ r ≡ challengeCheck (withBias (setting .setting) (setting .bias)) (now (ticket .entry)) (now (list .entry)) ⌝ }
+{
+    challenge::check(setting.biased(), ticket, list)
+}
+
+#[no_mangle]
+pub extern "C" fn dikdumar_bias_full_check(setting: BiasSetting, ticket: &[u8]) -> Answer
+    ensures { λ r. ⌜ r ≡ fullCheck (withBias (setting .setting) (setting .bias)) (now (ticket .entry)) ⌝ }
+{
+    full::check(setting.biased(), ticket)
+}
+
+#[no_mangle]
+pub extern "C" fn dikdumar_write_bias_ticket(
+    setting: BiasSetting,
+    a: &[i32],
+    b: &[i32],
+    bias: &[i32],
+    output: &mut [u8],
+) -> Answer
+    ensures { λ r. ⌜ (r ≡ writing (withBias (setting .setting) (setting .bias)) (now (a .entry)) (now (b .entry)) (now (bias .entry)) (length (now (output .entry))))
+        × (now (output .exit) ≡ outputAfter (withBias (setting .setting) (setting .bias)) (now (a .entry)) (now (b .entry)) (now (bias .entry)) (now (output .entry))) ⌝ }
+{
+    writer::write(setting.biased(), a, b, bias, output)
 }

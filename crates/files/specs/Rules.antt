@@ -4,7 +4,7 @@
 --   settingBytes       the bytes of a setting file
 --   numberBytes        the bytes of a number in a file
 --   wordAt b i         the number that begins at byte i of b
---   settingOf b        the setting that b stands for: ℓ, m, n, s one byte each, then α, T, v four bytes each
+--   settingOf b        the setting that b stands for, without a bias: ℓ, m, n, s one byte each, then α, T, v four bytes each
 --   numbersOf b        the 4-byte numbers of b, one after another
 --   fileCheck s t c    the answer of the program, for the bytes of setting.rec, ticket.rec and challenge.rec
 --   digit d            the byte of the digit d, in ASCII
@@ -21,7 +21,7 @@ use lib.ListN.{length, getD}
 use Rattle.algebra.specs.Rules.{word}
 use Rattle.ticket.specs.declared.setting.Setting.{Setting}
 use Rattle.ticket.specs.declared.Answer.{Answer}
-use Rattle.ticket.specs.Rules.{unless, refusal, after, reading}
+use Rattle.ticket.specs.Rules.{unless, refusal, after, reading, plain}
 use Rattle.challenge.specs.Rules.{challengeCheck}
 
 -- the files
@@ -37,7 +37,8 @@ wordAt bytes i = word (getD bytes i 0) (getD bytes (i + 1) 0) (getD bytes (i + 2
 
 unfoldable pub settingOf : List ℕ → Setting
 settingOf bytes =
-    record {
+    plain
+    (record {
       rows = getD bytes 0 0;
       inner = getD bytes 1 0;
       columns = getD bytes 2 0;
@@ -45,7 +46,7 @@ settingOf bytes =
       scale = wordAt bytes 4;
       bound = wordAt bytes 8;
       width = wordAt bytes 12;
-    }
+    })
 
 -- fewer than four bytes hold no number
 unfoldable pub numbersOf : List ℕ → List ℕ

@@ -6,17 +6,18 @@ ghost use Rattle.files.specs.Rules.{numberBytes, settingOf, wordAt};
 ghost use Rattle.files.specs.Laws.Numbers.{mostNumbers, Counted, ChallengeWords};
 use crate::LONGEST_CHALLENGE;
 use crate::NUMBER;
+use ticket::PlainSetting;
 use ticket::Setting;
 use ticket::word;
 
 // One more number than any list has.
 const NUMBERS: usize = LONGEST_CHALLENGE / NUMBER + 1;
 
-// The setting in a file of 16 bytes.
+// The setting in a file of 16 bytes, which has no bias.
 pub(crate) fn setting_of(bytes: &[u8]) -> Setting
     ensures { λ r. ⌜ r ≡ settingOf (now (bytes .entry)) ⌝ }
 {
-    Setting {
+    PlainSetting {
         rows: byte_at(bytes, 0) as u32,
         inner: byte_at(bytes, 1) as u32,
         columns: byte_at(bytes, 2) as u32,
@@ -24,7 +25,7 @@ pub(crate) fn setting_of(bytes: &[u8]) -> Setting
         scale: word_at(bytes, 4),
         bound: word_at(bytes, 8),
         width: word_at(bytes, 12),
-    }
+    }.plain()
 }
 
 // How many numbers a challenge file of so many bytes holds. Where that is no whole number, or more than any list has, it is one

@@ -14,7 +14,8 @@ use Prim.Native.Nat.{ℕ, _+_, _*_, _<_, min}
 use native.Mathlib.Decide.{ℕ-discrete}
 use native.Mathlib.Omega.{arith}
 use mathlib.Core.Logic.{⊎-elim}
-use mathlib.Core.Path.{_≡_, sym, ap, _∙_}
+use mathlib.Core.Path.{_≡_, refl, sym, ap, _∙_}
+use mathlib.Core.Bool.{false}
 use mathlib.Core.List.{List, _++_}
 use borrow.Author.Tests.{ne-eqb}
 use lib.ListN.{length, take, drop, length-append, length-take, length-drop}
@@ -23,7 +24,7 @@ use Rattle.ticket.specs.declared.setting.Setting.{Setting}
 use Rattle.ticket.specs.declared.Answer.{Answer}
 use Rattle.ticket.specs.Rules.{refusal, after, settingTests, settingNumber, reading}
 use Rattle.ticket.specs.Laws.Tests.{hold-or-failed, failed-number}
-use Rattle.ticket.specs.Laws.Limits.{counts, limits-of}
+use Rattle.ticket.specs.Laws.Limits.{counts, limits-of, without-bias}
 use Rattle.ticket.specs.Laws.Layout.{longestTicket, length-most}
 use Rattle.ticket.specs.Laws.Refusals.{by-setting, refused-number, refused-reading, wrong-length}
 use Rattle.ticket.specs.Laws.Answers.{after-zero}
@@ -37,10 +38,11 @@ use Rattle.files.specs.Laws.Checks.{setting-file-refused, after-setting}
 abbrev pub longestChallenge : ℕ
 longestChallenge = numberBytes * mostNumbers
 
-pub long-ticket : (G : Setting) (t : List ℕ) → longestTicket < length t → reading G t ≡ after (refusal (settingNumber G) 0) (refusal 4 0)
-long-ticket G t l =
+pub long-ticket : (G : Setting) (t : List ℕ) → G .biased ≡ false → longestTicket < length t → reading G t ≡ after (refusal (settingNumber G) 0) (refusal 4 0)
+long-ticket G t none l =
     ⊎-elim
-    (λ h. wrong-length G t (λ e. omega (arith, length-most (counts (limits-of G h .sizes)))))
+    (λ h. wrong-length G t (λ e.
+    omega (arith, length-most (counts (limits-of G h .sizes)), ap (λ n. G .rows * n) (without-bias G none .1))))
     (λ f. let number = failed-number (f .1) in
     let refused = by-setting (f .1) in
     refused-reading G t refused ∙ ap (λ c. refusal c 0) (sym number)
@@ -51,13 +53,17 @@ module _ (s t c : List ℕ) where
   abbrev G : Setting
   G = settingOf s
 
+  file-plain : G .biased ≡ false
+  unfolding settingOf
+  file-plain = refl
+
   setting-start : (i : ℕ) → settingBytes < i → fileCheck (take i s) t c ≡ fileCheck s t c
   setting-start i h = by-start (λ l. fileCheck l t c) s h (λ x l. sym (setting-file-refused x t c (λ z. omega arith)))
 
   module _ (right : length s ≡ settingBytes) where
     ticket-too-long : longestTicket < length t → fileCheck s t c ≡ after (refusal (settingNumber G) 0) (refusal 4 0)
     ticket-too-long l =
-        let e = long-ticket G t l in
+        let e = long-ticket G t file-plain l in
         after-setting s t c right
         ∙ after-refused (reading G t) _ (λ z. omega (arith, after-zero (refusal (settingNumber G) 0) (refusal 4 0) .0 (sym (ap (λ a. a .number) e) ∙ z)))
         ∙ e
