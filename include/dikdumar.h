@@ -1,18 +1,19 @@
 /*
  * The layer ticket and its checker: residue arithmetic modulo p = 2147483647
- * (a prime, 2^31 - 1), the challenge check, the full check, the ticket writer.
+ * (a prime, 2^31 - 1), the challenge check, the full check, the ticket writer,
+ * and these three for bias tickets.
  *
  * A call cannot test this, and asks it of its caller:
  *
  * - Each pointer is valid for as many items as the length beside it says: bytes
- *   of a ticket or an output, numbers of a list or of the operands a and b. NULL
- *   is taken where that length is 0.
- * - The writer's output lies apart from its operands, and nothing else writes to
+ *   of a ticket or an output, numbers of a list or of the operands a, b and
+ *   bias. NULL is taken where that length is 0.
+ * - A writer's output lies apart from its operands, and nothing else writes to
  *   what is lent, or reads the output, before the call returns.
  *
  * With that, nothing is undefined: every call takes every number, whatever its
  * value, every byte and every length, and returns. It reads no more than is
- * lent, writes to nothing but the writer's output, keeps nothing between calls
+ * lent, writes to nothing but a writer's output, keeps nothing between calls
  * and uses no heap, so any number of threads may call at once.
  *
  * In the residue calls a residue is handed in by any number that is equal to it
@@ -91,7 +92,7 @@ typedef struct {
  * is accepted, or written, where number is 0 and only there.
  */
 typedef struct {
-    uint32_t number;   /* what was found, 0 to 16 */
+    uint32_t number;   /* what was found, 0 to 18 */
     uint32_t place;    /* where, by the number; the length of a written ticket */
     uint32_t row;      /* the row that was caught, from 0, else 0 */
     uint32_t products; /* the products counted, else 0 */
@@ -211,6 +212,145 @@ dikdumar_answer dikdumar_write_ticket(dikdumar_setting setting,
                                       const int32_t *a, size_t a_length,
                                       const int32_t *b, size_t b_length,
                                       uint8_t *output, size_t output_length);
+
+/* Bias tickets */
+
+/*
+ * The public numbers of a check of bias tickets: a setting, whose letters stand
+ * for its numbers as above, and the bound of the bias, W.
+ *
+ * It fits when m*T^2 + W + a - 1 <= 2^(v-1)*a and 2^v*a < p. Any v that fits is
+ * taken, not only the smallest.
+ */
+typedef struct {
+    dikdumar_setting setting; /* l, m, n, s, a, T and v, within the limits above */
+    uint32_t bias_bound;      /* W, entries of the bias are from -W to W: 0 to 2^30 */
+} dikdumar_bias_setting;
+
+/*
+ * Checks a bias ticket against a list of challenges.
+ *
+ * A bias ticket holds A (l by m), B (m by n), the bias c (l by n), quotients q
+ * and remainders r (both l by n) in this order, each row by row, in the records
+ * of a ticket, with kind 5 for an entry of the bias.
+ *
+ * The claim at row i, column j is true when a*q + r is the exact sum of
+ * A(i,k)*B(k,j) over all k, plus c(i,j). The list holds s vectors of n least
+ * residues, one vector after another. For each vector X, B times X is worked out
+ * once, and then for each row both sides are compared modulo p: the claims of
+ * the row times X, and the row of A times that plus the row of the bias times X.
+ * A true ticket is accepted with every such list. A false one passes only where
+ * its errors cancel, so the list is to be drawn at random once the ticket is
+ * fixed.
+ *
+ *     number  meaning                                    place
+ *        0    accepted                                   0
+ *        1    l, m, n or s outside its limits            0
+ *        2    a, T or v outside its limits               0
+ *        3    the setting does not fit                   0
+ *        4    ticket's length not 8*(l*m + m*n + 3*l*n)  0
+ *        5    kind, zero byte, row or column unexpected  record
+ *        6    value of p or more                         record
+ *        7    entry of A or B below -T or above T        record
+ *        8    quotient not from -2^(v-1) to 2^(v-1) - 1  record
+ *        9    remainder of a or more                     record
+ *       10    list's length not s*n                      0
+ *       11    list number of p or more                   index in the list
+ *       12    caught: the two sides of a row differ      vector t
+ *       17    W above 2^30                               0
+ *       18    bias entry below -W or above W             record
+ *
+ * The first test that fails decides: 1, 2, 17, 3 and 4, then record after
+ * record each by 5, 6 and its own range (7, 18, 8 or 9), then 10, 11 and 12.
+ * Records are counted from 0 over the whole ticket. Row and products are 0
+ * except in these answers:
+ *
+ *     number  row    products
+ *        0    0      s*(m*n + 2*l*n + l*m)
+ *       12    row i  t*(m*n + 2*l*n + l*m) + m*n + (i + 1)*(2*n + m)
+ */
+dikdumar_answer dikdumar_bias_challenge_check(dikdumar_bias_setting setting,
+                                              const uint8_t *ticket, size_t ticket_length,
+                                              const uint32_t *list, size_t list_length);
+
+/*
+ * Checks every claim of a bias ticket, row by row, with no list.
+ *
+ * The ticket is read as by the challenge check of bias tickets. Then each exact
+ * sum of A(i,k)*B(k,j) over all k, plus c(i,j), is made and compared with
+ * a*q + r. It accepts the true bias tickets and no other: each quotient is the
+ * floor of its sum plus bias over the scale (rounded down, also below zero), and
+ * each remainder what is left.
+ *
+ *     number  meaning                                    place
+ *        0    accepted                                   0
+ *        1    l, m, n or s outside its limits            0
+ *        2    a, T or v outside its limits               0
+ *        3    the setting does not fit                   0
+ *        4    ticket's length not 8*(l*m + m*n + 3*l*n)  0
+ *        5    kind, zero byte, row or column unexpected  record
+ *        6    value of p or more                         record
+ *        7    entry of A or B below -T or above T        record
+ *        8    quotient not from -2^(v-1) to 2^(v-1) - 1  record
+ *        9    remainder of a or more                     record
+ *       16    untrue claim, at row i, column j           i*n + j
+ *       17    W above 2^30                               0
+ *       18    bias entry below -W or above W             record
+ *
+ * The first test that fails decides: 1 to 9, 17 and 18 in the order of the
+ * challenge check of bias tickets, then 16, row by row. s is tested with the
+ * rest of the setting, and not used. Row and products are 0 except in these
+ * answers:
+ *
+ *     number  row  products
+ *        0    0    l*m*n
+ *       16    0    m*(i*n + j + 1)
+ */
+dikdumar_answer dikdumar_bias_full_check(dikdumar_bias_setting setting,
+                                         const uint8_t *ticket, size_t ticket_length);
+
+/*
+ * Writes the one bias ticket for A, B and a bias whose claims are true.
+ *
+ * A (l by m), B (m by n) and the bias (l by n) are handed in as signed numbers,
+ * row by row, and may hold any of the 2^32. The ticket is written to the
+ * beginning of the output: A, B, the bias, the quotients and the remainders.
+ * Each quotient is the floor of its sum plus bias over the scale (rounded down,
+ * also below zero), each remainder what is left. The full check of bias tickets
+ * accepts the ticket, and their challenge check does with every list of s*n
+ * least residues.
+ *
+ *     number  meaning                                                    place
+ *        0    written                                                    8*(l*m + m*n + 3*l*n)
+ *        1    l, m, n or s outside its limits                            0
+ *        2    a, T or v outside its limits                               0
+ *        3    the setting does not fit                                   0
+ *       13    length of A not l*m, of B not m*n, or of the bias not l*n  0 for A, 1 for B, 2 for the bias
+ *       14    number of A or B below -T or above T                       index in A, then B
+ *       15    output shorter than the ticket                             0
+ *       17    W above 2^30                                               0
+ *       18    number of the bias below -W or above W                     index after A and B
+ *
+ * The place of 0 is the ticket's length in bytes. The indices are counted on
+ * from A into B, and from B into the bias: the first of B is l*m, the first of
+ * the bias l*m + m*n.
+ *
+ * The first test that fails decides: 1, 2, 17, 3, 13 for A, 13 for B, 13 for
+ * the bias, 14 from the first number of A on, 18 from the first of the bias on,
+ * 15. s is tested with the rest of the setting, and not used. Row and products
+ * are 0 except in this answer:
+ *
+ *     number  row  products
+ *        0    0    l*m*n
+ *
+ * Where the number is 0, the output past the ticket's length stays as it is.
+ * Where it is another, no byte of the output is changed.
+ */
+dikdumar_answer dikdumar_write_bias_ticket(dikdumar_bias_setting setting,
+                                           const int32_t *a, size_t a_length,
+                                           const int32_t *b, size_t b_length,
+                                           const int32_t *bias, size_t bias_length,
+                                           uint8_t *output, size_t output_length);
 
 #ifdef __cplusplus
 }
