@@ -1,8 +1,10 @@
 //! Safe Rust functions over the proved static library: the two checks of a
-//! ticket, the writer of tickets, and residue arithmetic.
+//! ticket, the writer of tickets, the same three for bias tickets, and residue
+//! arithmetic.
 //!
 //! A ticket holds two integer matrices A and B and, for every entry S of their
-//! product, a quotient q and a remainder r with the claim αq + r = S.
+//! product, a quotient q and a remainder r with the claim αq + r = S. A bias
+//! ticket also holds a bias c for every S, and its claims are αq + r = S + c.
 //!
 //! Every call takes every value of its arguments, and changes none that is lent
 //! for reading. None panics, allocates, or asks anything of its caller.
@@ -27,6 +29,26 @@
 //! assert_eq!(full_check(setting, &ticket).number, 16);
 //! ```
 //!
+//! ```
+//! use dikdumar::{bias_challenge_check, bias_full_check, write_bias_ticket, BiasSetting};
+//!
+//! // The same with a bias, and W = 23.
+//! let setting = BiasSetting::from([2, 2, 2, 1, 10, 8, 5, 23]);
+//!
+//! let mut ticket = [0; 160];
+//! let (a, b, bias) = ([3, -2, 5, 4], [-1, 6, 7, -8], [-4, 23, -23, 5]);
+//! let answer = write_bias_ticket(setting, &a, &b, &bias, &mut ticket);
+//! assert_eq!(answer.numbers(), [0, 160, 0, 8]);
+//!
+//! assert_eq!(bias_full_check(setting, &ticket).number, 0);
+//! assert_eq!(bias_challenge_check(setting, &ticket, &[1, 2]).number, 0);
+//!
+//! // The last entry of the bias, 5, becomes 6: its claim is untrue.
+//! ticket[8 * 11 + 4] += 1;
+//! assert_eq!(bias_challenge_check(setting, &ticket, &[1, 2]).number, 12);
+//! assert_eq!(bias_full_check(setting, &ticket).number, 16);
+//! ```
+//!
 //! The library is linked from target/staticlib/libdikdumar.a, which
 //! `rt staticlib dikdumar` writes.
 
@@ -42,9 +64,9 @@ mod setting;
 pub mod writer;
 
 pub use answer::Answer;
-pub use check::{challenge_check, full_check};
-pub use setting::Setting;
-pub use writer::write_ticket;
+pub use check::{bias_challenge_check, bias_full_check, challenge_check, full_check};
+pub use setting::{BiasSetting, Setting};
+pub use writer::{write_bias_ticket, write_ticket};
 
 /// The version of this interface, as `DIKDUMAR_VERSION` in include/dikdumar.h has
 /// it.

@@ -14,9 +14,9 @@
 //!   returns, and does not unwind.
 //!
 //! What is left to trust is that the declarations below, and the layouts of
-//! `Setting` and `Answer`, are those of the header.
+//! `Setting`, `BiasSetting` and `Answer`, are those of the header.
 
-use crate::{Answer, Setting};
+use crate::{Answer, BiasSetting, Setting};
 
 unsafe extern "C" {
     pub safe fn dikdumar_reduce(x: u32) -> u32;
@@ -46,6 +46,28 @@ unsafe extern "C" {
         output: *mut u8,
         output_length: usize,
     ) -> Answer;
+
+    fn dikdumar_bias_challenge_check(
+        setting: BiasSetting,
+        ticket: *const u8,
+        ticket_length: usize,
+        list: *const u32,
+        list_length: usize,
+    ) -> Answer;
+
+    fn dikdumar_bias_full_check(setting: BiasSetting, ticket: *const u8, ticket_length: usize) -> Answer;
+
+    fn dikdumar_write_bias_ticket(
+        setting: BiasSetting,
+        a: *const i32,
+        a_length: usize,
+        b: *const i32,
+        b_length: usize,
+        bias: *const i32,
+        bias_length: usize,
+        output: *mut u8,
+        output_length: usize,
+    ) -> Answer;
 }
 
 pub fn challenge_check(setting: Setting, ticket: &[u8], list: &[u32]) -> Answer {
@@ -62,4 +84,32 @@ pub fn write_ticket(setting: Setting, a: &[i32], b: &[i32], output: &mut [u8]) -
     let (room, length) = (output.as_mut_ptr(), output.len());
     // SAFETY: as in `challenge_check`; the output is borrowed mutably, so it lies apart from the operands.
     unsafe { dikdumar_write_ticket(setting, a.as_ptr(), a.len(), b.as_ptr(), b.len(), room, length) }
+}
+
+pub fn bias_challenge_check(setting: BiasSetting, ticket: &[u8], list: &[u32]) -> Answer {
+    // SAFETY: as in `challenge_check`.
+    unsafe { dikdumar_bias_challenge_check(setting, ticket.as_ptr(), ticket.len(), list.as_ptr(), list.len()) }
+}
+
+pub fn bias_full_check(setting: BiasSetting, ticket: &[u8]) -> Answer {
+    // SAFETY: as in `challenge_check`.
+    unsafe { dikdumar_bias_full_check(setting, ticket.as_ptr(), ticket.len()) }
+}
+
+pub fn write_bias_ticket(setting: BiasSetting, a: &[i32], b: &[i32], bias: &[i32], output: &mut [u8]) -> Answer {
+    let (room, length) = (output.as_mut_ptr(), output.len());
+    // SAFETY: as in `write_ticket`.
+    unsafe {
+        dikdumar_write_bias_ticket(
+            setting,
+            a.as_ptr(),
+            a.len(),
+            b.as_ptr(),
+            b.len(),
+            bias.as_ptr(),
+            bias.len(),
+            room,
+            length,
+        )
+    }
 }

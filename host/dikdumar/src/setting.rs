@@ -1,4 +1,4 @@
-//! The setting.
+//! The settings.
 
 /// The public numbers of a check, and of the writer. They come from the caller,
 /// never from the ticket.
@@ -47,6 +47,47 @@ impl From<[u32; 7]> for Setting {
             scale,
             bound,
             width,
+        }
+    }
+}
+
+/// The public numbers of a check of bias tickets, and of their writer: a setting,
+/// and the bound of the bias.
+///
+/// It fits when m·T² + W + α - 1 ≤ 2^(v-1)·α and 2^v·α < p. One that is beyond its
+/// limits or does not fit is refused, as number 1, 2, 17 or 3.
+///
+/// ```
+/// use dikdumar::{BiasSetting, Setting};
+///
+/// let setting = BiasSetting::from([2, 2, 2, 1, 10, 8, 5, 23]);
+/// assert_eq!(setting.setting, Setting::from([2, 2, 2, 1, 10, 8, 5]));
+/// assert_eq!(setting.bias_bound, 23);
+///
+/// // 2 · 8² + 23 + 9 is 16 · 10. A larger bound of the bias does not fit, and one
+/// // above 2^30 is outside its limits.
+/// let number = |bias_bound| {
+///     let setting = BiasSetting { bias_bound, ..setting };
+///     dikdumar::bias_full_check(setting, &[]).number
+/// };
+/// assert_eq!((number(24), number(1 << 30), number((1 << 30) + 1)), (3, 3, 17));
+/// ```
+#[repr(C)]
+#[derive(Clone, Copy, Debug, PartialEq, Eq)]
+pub struct BiasSetting {
+    /// The setting, ℓ, m, n, s, α, T and v, with the limits that it has there.
+    pub setting: Setting,
+    /// Bound of the entries of the bias, W: 0 to 2^30.
+    pub bias_bound: u32,
+}
+
+impl From<[u32; 8]> for BiasSetting {
+    /// The setting of these numbers, in the order of the fields: ℓ, m, n, s, α,
+    /// T, v, W.
+    fn from([rows, inner, columns, vectors, scale, bound, width, bias_bound]: [u32; 8]) -> BiasSetting {
+        BiasSetting {
+            setting: Setting::from([rows, inner, columns, vectors, scale, bound, width]),
+            bias_bound,
         }
     }
 }
