@@ -44,7 +44,7 @@ pub struct Answer {
     /// list numbers, vectors, operands and claims count from 0; operands are
     /// counted on from A into B and from B into the bias, claims row by row.
     pub place: u32,
-    /// The row at which the ticket was caught by the challenge check, from 0; 0
+    /// The row at which the ticket was caught by a challenge check, from 0; 0
     /// for every other number.
     pub row: u32,
     /// The products counted.
