@@ -96,12 +96,13 @@ int main(void)
     const int32_t b[INNER * COLUMNS] = {-1, 6, 7, -8};
     const int32_t bias[ROWS * COLUMNS] = {-4, 23, -23, 5};
     uint8_t ticket[TICKET];
+    dikdumar_answer written = dikdumar_write_bias_ticket(SETTING, a, ROWS * INNER, b, INNER * COLUMNS, bias,
+                                                         ROWS * COLUMNS, ticket, TICKET);
 
     /* A times B is (-17, 34), (23, -2), and with the bias (-21, 57), (0, 3); -21
      * over 10 rounds down to -3. */
     printf("a bias ticket\n");
-    print_answer("writer", dikdumar_write_bias_ticket(SETTING, a, ROWS * INNER, b, INNER * COLUMNS, bias, ROWS * COLUMNS,
-                                                      ticket, TICKET));
+    print_answer("writer", written);
     print_record(ticket, FIRST_BIAS);
     receive("as it was written", ticket, TICKET);
 
