@@ -14,12 +14,12 @@
 
 #include "dikdumar.h"
 
-enum { LONGEST_OPERAND = 2048, LONGEST_LIST = 256, LONGEST_TICKET = 49152, UNTOUCHED = 0xA5, CHANGED = 1000 };
+enum { LONGEST_OPERAND = 2048, LONGEST_LIST = 256, LONGEST_TICKET = 57344, UNTOUCHED = 0xA5, CHANGED = 1000 };
 
 static int passed, failed;
 
 /* The call that is made, for messages. */
-static char doing[200];
+static char doing[300];
 
 static void stop(const char *what)
 {
@@ -93,85 +93,137 @@ static lent without_null(lent given, const void *valid)
     return given.items == NULL ? lend("empty", valid, 0) : given;
 }
 
-/* A setting, and what is handed in under it. */
-static dikdumar_setting setting;
-static int32_t a[LONGEST_OPERAND], b[LONGEST_OPERAND], beyond[LONGEST_OPERAND];
+/* The calls, and their pointers in order. */
+enum { CHALLENGE, FULL, WRITER, BIAS_CHALLENGE, BIAS_FULL, BIAS_WRITER, CALLS };
+enum { POINTERS = 4, SETS = 1 << POINTERS, CHOICES = 4 };
+typedef struct {
+    const char *name;
+    int count;
+    const char *pointers[POINTERS];
+} declaration;
+static const declaration CALL[CALLS] = {
+    {"dikdumar_challenge_check", 2, {"ticket", "list"}},
+    {"dikdumar_full_check", 1, {"ticket"}},
+    {"dikdumar_write_ticket", 3, {"a", "b", "output"}},
+    {"dikdumar_bias_challenge_check", 2, {"ticket", "list"}},
+    {"dikdumar_bias_full_check", 1, {"ticket"}},
+    {"dikdumar_write_bias_ticket", 4, {"a", "b", "bias", "output"}},
+};
+
+/* A setting, and what is handed in under it. The plain calls take its part that
+ * is theirs. */
+static dikdumar_bias_setting setting;
+static int32_t a[LONGEST_OPERAND], b[LONGEST_OPERAND], bias[LONGEST_OPERAND];
+static int32_t beyond_t[LONGEST_OPERAND], beyond_w[LONGEST_OPERAND];
 static uint32_t list[LONGEST_LIST], list_of_p[LONGEST_LIST];
-static uint8_t ticket[LONGEST_TICKET], damaged[LONGEST_TICKET], output[LONGEST_TICKET];
-static size_t a_length, b_length, list_length, ticket_length;
+static uint8_t ticket[LONGEST_TICKET], bias_ticket[LONGEST_TICKET];
+static uint8_t damaged[LONGEST_TICKET], damaged_bias[LONGEST_TICKET], output[LONGEST_TICKET];
+static size_t a_length, b_length, bias_length, list_length, ticket_length, bias_ticket_length;
 
 /* Takes a setting, with what passes under another. */
-static void prepare(dikdumar_setting taken, dikdumar_setting passes)
+static void prepare(dikdumar_bias_setting taken, dikdumar_bias_setting passes)
 {
-    dikdumar_answer written;
+    const dikdumar_setting plain = passes.setting;
+    dikdumar_answer written, bias_written;
     size_t k;
 
     for (k = 0; k < LONGEST_OPERAND; k++) {
         a[k] = (int32_t)(k % 3) - 1;
         b[k] = 1 - (int32_t)(k % 2);
-        beyond[k] = (int32_t)passes.bound + 1;
+        bias[k] = 1 - (int32_t)(k % 3);
+        beyond_t[k] = (int32_t)plain.bound + 1;
+        beyond_w[k] = -(int32_t)passes.bias_bound - 1;
     }
     for (k = 0; k < LONGEST_LIST; k++) {
         list[k] = (uint32_t)k;
         list_of_p[k] = 2147483647;
     }
-    a_length = (size_t)passes.rows * passes.inner;
-    b_length = (size_t)passes.inner * passes.columns;
-    list_length = (size_t)passes.vectors * passes.columns;
-    written = dikdumar_write_ticket(passes, a, a_length, b, b_length, ticket, LONGEST_TICKET);
+    a_length = (size_t)plain.rows * plain.inner;
+    b_length = (size_t)plain.inner * plain.columns;
+    bias_length = (size_t)plain.rows * plain.columns;
+    list_length = (size_t)plain.vectors * plain.columns;
+    written = dikdumar_write_ticket(plain, a, a_length, b, b_length, ticket, LONGEST_TICKET);
     count("a ticket to begin with", written.number == 0);
+    bias_written = dikdumar_write_bias_ticket(passes, a, a_length, b, b_length, bias, bias_length, bias_ticket,
+                                              LONGEST_TICKET);
+    count("a bias ticket to begin with", bias_written.number == 0);
     ticket_length = written.place;
+    bias_ticket_length = bias_written.place;
     memcpy(damaged, ticket, LONGEST_TICKET);
-    damaged[0] = 0;
+    memcpy(damaged_bias, bias_ticket, LONGEST_TICKET);
+    damaged[0] = damaged_bias[0] = 0;
     setting = taken;
 }
 
-static void describe(const char *call, lent x, lent y, lent z)
+static void describe(int call, const lent *given)
 {
-    sprintf(doing, "%s(%s%s%s%s%s) under l = %u, n = %u, a = %u, v = %u", call, x.what, y.what[0] ? ", " : "", y.what,
-            z.what[0] ? ", " : "", z.what, (unsigned)setting.rows, (unsigned)setting.columns, (unsigned)setting.scale,
-            (unsigned)setting.width);
+    int k, end = sprintf(doing, "%s(", CALL[call].name);
+
+    for (k = 0; k < CALL[call].count; k++)
+        end += sprintf(doing + end, "%s%s", k > 0 ? ", " : "", given[k].what);
+    sprintf(doing + end, ") under l = %u, n = %u, a = %u, v = %u, W = %u", (unsigned)setting.setting.rows,
+            (unsigned)setting.setting.columns, (unsigned)setting.setting.scale, (unsigned)setting.setting.width,
+            (unsigned)setting.bias_bound);
 }
 
-static const lent null = {"NULL", NULL, 0}, none = {"", NULL, 0};
-
-static dikdumar_answer challenge_check(lent t, lent x)
+static dikdumar_answer check(int call, const lent *given)
 {
-    describe("dikdumar_challenge_check", t, x, none);
-    return dikdumar_challenge_check(setting, (const uint8_t *)t.items, t.length, (const uint32_t *)x.items, x.length);
-}
+    const uint8_t *t = (const uint8_t *)given[0].items;
+    const uint32_t *x = (const uint32_t *)given[1].items;
 
-static dikdumar_answer full_check(lent t)
-{
-    describe("dikdumar_full_check", t, none, none);
-    return dikdumar_full_check(setting, (const uint8_t *)t.items, t.length);
+    switch (call) {
+    case CHALLENGE:
+        return dikdumar_challenge_check(setting.setting, t, given[0].length, x, given[1].length);
+    case FULL:
+        return dikdumar_full_check(setting.setting, t, given[0].length);
+    case BIAS_CHALLENGE:
+        return dikdumar_bias_challenge_check(setting, t, given[0].length, x, given[1].length);
+    default:
+        return dikdumar_bias_full_check(setting, t, given[0].length);
+    }
 }
 
 /* The output is the array of that name, or NULL. */
-static dikdumar_answer write_ticket(lent x, lent y, lent o)
+static dikdumar_answer write_ticket(int call, const lent *given)
 {
+    const int32_t *x = (const int32_t *)given[0].items, *y = (const int32_t *)given[1].items;
+    const lent out = given[CALL[call].count - 1];
+    uint8_t *room = out.items == NULL ? NULL : output;
     dikdumar_answer answer;
     size_t k;
 
-    describe("dikdumar_write_ticket", x, y, o);
     memset(output, UNTOUCHED, LONGEST_TICKET);
-    answer = dikdumar_write_ticket(setting, (const int32_t *)x.items, x.length, (const int32_t *)y.items, y.length,
-                                   o.items == NULL ? NULL : output, o.length);
+    if (call == WRITER)
+        answer = dikdumar_write_ticket(setting.setting, x, given[0].length, y, given[1].length, room, out.length);
+    else
+        answer = dikdumar_write_bias_ticket(setting, x, given[0].length, y, given[1].length,
+                                            (const int32_t *)given[2].items, given[2].length, room, out.length);
     for (k = 0; k < LONGEST_TICKET; k++)
         if (answer.number != 0 && output[k] != UNTOUCHED)
             answer.number = CHANGED;
     return answer;
 }
 
-/* For each call the sets of its pointers that are NULL: the first counts 1, the
- * second 2, the third 4. */
-enum { CALLS = 3, SETS = 8 };
-static const char *const SET[CALLS][SETS] = {
-    {"", "ticket", "list", "ticket and list", NULL, NULL, NULL, NULL},
-    {"", "ticket", NULL, NULL, NULL, NULL, NULL, NULL},
-    {"", "a", "b", "a and b", "output", "a and output", "b and output", "a, b and output"},
-};
-static const char *const CALL[CALLS] = {"dikdumar_challenge_check", "dikdumar_full_check", "dikdumar_write_ticket"};
+/* Makes a call with what its pointers lend, in their order. */
+static dikdumar_answer make(int call, const lent *given)
+{
+    describe(call, given);
+    return call == WRITER || call == BIAS_WRITER ? write_ticket(call, given) : check(call, given);
+}
+
+/* The pointers of a set that are NULL, in words: the first counts 1, the second
+ * 2, the third 4, the fourth 8. */
+static const char *words(int call, int set)
+{
+    static char made[100];
+    int k, end = 0;
+
+    for (k = 0; k < CALL[call].count; k++)
+        if (set >> k & 1)
+            end += sprintf(made + end, "%s%s", end == 0 ? "" : set >> (k + 1) ? ", " : " and ", CALL[call].pointers[k]);
+    return made;
+}
+
 static unsigned compared[CALLS][SETS], different[CALLS][SETS];
 
 static void compare(int call, int set, dikdumar_answer with_null, dikdumar_answer expected)
@@ -180,59 +232,135 @@ static void compare(int call, int set, dikdumar_answer with_null, dikdumar_answe
     if (!is_same(with_null, expected)) {
         different[call][set]++;
         printf("%s: %u %u %u %u, and with NULL for %s %u %u %u %u\n", doing, (unsigned)expected.number, (unsigned)expected.place,
-               (unsigned)expected.row, (unsigned)expected.products, SET[call][set], (unsigned)with_null.number,
+               (unsigned)expected.row, (unsigned)expected.products, words(call, set), (unsigned)with_null.number,
                (unsigned)with_null.place, (unsigned)with_null.row, (unsigned)with_null.products);
     }
 }
 
-static void compare_all(void)
+static const lent null = {"NULL", NULL, 0}, none = {"", NULL, 0};
+
+/* What a pointer may lend: NULL, and three others, the last of which is right. */
+typedef lent choices[CHOICES];
+
+static void choose(lent *made, lent x, lent y, lent z)
 {
-    const lent tickets[] = {null, lend("short", ticket, ticket_length - 1), lend("damaged", damaged, ticket_length),
-                            lend("good", ticket, ticket_length)};
-    const lent lists[] = {null, lend("short", list, list_length - 1), lend("of p", list_of_p, list_length),
-                          lend("good", list, list_length)};
-    const lent as[] = {null, lend("short", a, a_length - 1), lend("beyond T", beyond, a_length), lend("good", a, a_length)};
-    const lent bs[] = {null, lend("short", b, b_length - 1), lend("beyond T", beyond, b_length), lend("good", b, b_length)};
-    const lent outputs[] = {null, lend("short", output, ticket_length - 1), lend("good", output, ticket_length),
-                            lend("long", output, LONGEST_TICKET)};
-    dikdumar_answer found;
-    int i, j, k, set;
-
-    for (i = 0; i < 4; i++)
-        for (j = 0; j < 4; j++)
-            if ((set = (i == 0) + 2 * (j == 0)) != 0) {
-                found = challenge_check(tickets[i], lists[j]);
-                compare(0, set, found, challenge_check(without_null(tickets[i], ticket), without_null(lists[j], list)));
-            }
-
-    found = full_check(null);
-    compare(1, 1, found, full_check(without_null(null, ticket)));
-
-    for (i = 0; i < 4; i++)
-        for (j = 0; j < 4; j++)
-            for (k = 0; k < 4; k++)
-                if ((set = (i == 0) + 2 * (j == 0) + 4 * (k == 0)) != 0) {
-                    found = write_ticket(as[i], bs[j], outputs[k]);
-                    compare(2, set, found,
-                            write_ticket(without_null(as[i], a), without_null(bs[j], b), without_null(outputs[k], output)));
-                }
+    made[0] = null;
+    made[1] = x;
+    made[2] = y;
+    made[3] = z;
 }
 
-static void expect(dikdumar_answer found, uint32_t number, uint32_t place)
+/* A call with every choice for each of its pointers, where one at least is NULL. */
+static void compare_call(int call, choices *lends)
 {
+    lent given[POINTERS] = {none, none, none, none}, valid[POINTERS] = {none, none, none, none};
+    const int picks = 1 << (2 * CALL[call].count);
+    dikdumar_answer found;
+    int k, pick, set;
+
+    for (pick = 0; pick < picks; pick++) {
+        set = 0;
+        for (k = 0; k < CALL[call].count; k++) {
+            given[k] = lends[k][pick >> (2 * k) & 3];
+            valid[k] = without_null(given[k], lends[k][CHOICES - 1].items);
+            set |= (given[k].items == NULL) << k;
+        }
+        if (set != 0) {
+            found = make(call, given);
+            compare(call, set, found, make(call, valid));
+        }
+    }
+}
+
+/* The choices for the checks and for the writers. */
+static choices of_checks[2], of_bias_checks[2], of_writer[3], of_bias_writer[4];
+
+static void compare_all(void)
+{
+    const lent short_list = lend("short", list, list_length - 1), list_beyond = lend("of p", list_of_p, list_length);
+    const lent good_list = lend("good", list, list_length);
+
+    choose(of_checks[0], lend("short", ticket, ticket_length - 1), lend("damaged", damaged, ticket_length),
+           lend("good", ticket, ticket_length));
+    choose(of_checks[1], short_list, list_beyond, good_list);
+    choose(of_bias_checks[0], lend("short", bias_ticket, bias_ticket_length - 1),
+           lend("damaged", damaged_bias, bias_ticket_length), lend("good", bias_ticket, bias_ticket_length));
+    choose(of_bias_checks[1], short_list, list_beyond, good_list);
+
+    choose(of_writer[0], lend("short", a, a_length - 1), lend("beyond T", beyond_t, a_length),
+           lend("good", a, a_length));
+    choose(of_writer[1], lend("short", b, b_length - 1), lend("beyond T", beyond_t, b_length),
+           lend("good", b, b_length));
+    choose(of_writer[2], lend("short", output, ticket_length - 1), lend("long", output, LONGEST_TICKET),
+           lend("good", output, ticket_length));
+    memcpy(of_bias_writer, of_writer, 2 * sizeof(choices));
+    choose(of_bias_writer[2], lend("short", bias, bias_length - 1), lend("beyond W", beyond_w, bias_length),
+           lend("good", bias, bias_length));
+    choose(of_bias_writer[3], lend("short", output, bias_ticket_length - 1), lend("long", output, LONGEST_TICKET),
+           lend("good", output, bias_ticket_length));
+
+    compare_call(CHALLENGE, of_checks);
+    compare_call(FULL, of_checks);
+    compare_call(WRITER, of_writer);
+    compare_call(BIAS_CHALLENGE, of_bias_checks);
+    compare_call(BIAS_FULL, of_bias_checks);
+    compare_call(BIAS_WRITER, of_bias_writer);
+}
+
+/* A call that is lent these; where it has fewer pointers, the last are not used. */
+static void expect(int call, lent x, lent y, lent z, lent o, uint32_t number, uint32_t place)
+{
+    const lent given[POINTERS] = {x, y, z, o};
     const dikdumar_answer expected = {number, place, 0, 0};
+    const dikdumar_answer found = make(call, given);
+
     count(doing, is_same(found, expected));
+}
+
+/* Under K with a bias. */
+static void expect_all(void)
+{
+    const lent good_list = lend("good", list, list_length);
+    const lent good_a = lend("good", a, a_length), good_b = lend("good", b, b_length);
+    const lent good_bias = lend("good", bias, bias_length), b_beyond = lend("beyond T", beyond_t, b_length);
+    const lent bias_beyond = lend("beyond W", beyond_w, bias_length);
+    int call;
+
+    for (call = CHALLENGE; call <= BIAS_CHALLENGE; call += BIAS_CHALLENGE - CHALLENGE) {
+        choices *lends = call == CHALLENGE ? of_checks : of_bias_checks;
+
+        expect(call, null, null, none, none, 4, 0);
+        expect(call, null, good_list, none, none, 4, 0);
+        expect(call, (*lends)[2], null, none, none, 5, 0);
+        expect(call, (*lends)[3], null, none, none, 10, 0);
+    }
+    expect(FULL, null, none, none, none, 4, 0);
+    expect(BIAS_FULL, null, none, none, none, 4, 0);
+    expect(WRITER, null, null, null, none, 13, 0);
+    expect(WRITER, good_a, null, null, none, 13, 1);
+    expect(WRITER, good_a, b_beyond, null, none, 14, 4);
+    expect(WRITER, good_a, good_b, null, none, 15, 0);
+    expect(BIAS_WRITER, null, null, null, null, 13, 0);
+    expect(BIAS_WRITER, good_a, null, null, null, 13, 1);
+    expect(BIAS_WRITER, good_a, b_beyond, null, null, 13, 2);
+    expect(BIAS_WRITER, good_a, b_beyond, bias_beyond, null, 14, 4);
+    expect(BIAS_WRITER, good_a, good_b, bias_beyond, null, 18, 8);
+    expect(BIAS_WRITER, good_a, good_b, good_bias, null, 15, 0);
 }
 
 int main(void)
 {
-    const dikdumar_setting k = {2, 2, 2, 1, 10, 8, 5}, smallest = {1, 1, 1, 1, 2, 1, 2},
-                           largest = {32, 64, 32, 8, 65536, 2000, 14};
-    /* K with a number outside its limits, twice, and K unfit: the answers 1, 2 and 3. */
-    const dikdumar_setting refused[] = {{2, 2, 33, 1, 10, 8, 5}, {2, 2, 2, 1, 1, 8, 5}, {2, 2, 2, 1, 10, 8, 4}};
-    char what[100];
-    uint32_t number;
-    int call, set;
+    const dikdumar_bias_setting k = {{2, 2, 2, 1, 10, 8, 5}, 23}, smallest = {{1, 1, 1, 1, 2, 1, 2}, 1},
+                                largest = {{32, 64, 32, 8, 65536, 2000, 14}, 1000};
+    /* K with a number outside its limits, twice, K unfit, and W beyond its limit,
+     * which the plain calls don't have: the answers 1, 2, 3 and 17. */
+    const dikdumar_bias_setting refused[] = {{{2, 2, 33, 1, 10, 8, 5}, 23},
+                                             {{2, 2, 2, 1, 1, 8, 5}, 23},
+                                             {{2, 2, 2, 1, 10, 8, 4}, 23},
+                                             {{2, 2, 2, 1, 10, 8, 5}, 1073741825}};
+    const uint32_t numbers[] = {1, 2, 3, 17};
+    char what[200];
+    int call, set, r;
 
     setvbuf(stdout, NULL, _IOLBF, 0);
     signal(SIGSEGV, fault);
@@ -243,26 +371,17 @@ int main(void)
     compare_all();
     prepare(k, k);
     compare_all();
-    expect(challenge_check(null, null), 4, 0);
-    expect(challenge_check(null, lend("good", list, list_length)), 4, 0);
-    expect(challenge_check(lend("damaged", damaged, ticket_length), null), 5, 0);
-    expect(challenge_check(lend("good", ticket, ticket_length), null), 10, 0);
-    expect(full_check(null), 4, 0);
-    expect(write_ticket(null, null, null), 13, 0);
-    expect(write_ticket(lend("good", a, a_length), null, null), 13, 1);
-    expect(write_ticket(lend("good", a, a_length), lend("beyond T", beyond, b_length), null), 14, 4);
-    expect(write_ticket(lend("good", a, a_length), lend("good", b, b_length), null), 15, 0);
-    for (number = 1; number <= 3; number++) {
-        prepare(refused[number - 1], k);
+    expect_all();
+    for (r = 0; r < 4; r++) {
+        prepare(refused[r], k);
         compare_all();
-        expect(challenge_check(null, null), number, 0);
-        expect(full_check(null), number, 0);
-        expect(write_ticket(null, null, null), number, 0);
+        for (call = numbers[r] == 17 ? BIAS_CHALLENGE : CHALLENGE; call < CALLS; call++)
+            expect(call, null, null, null, null, numbers[r], 0);
     }
 
     for (call = 0; call < CALLS; call++)
-        for (set = 1; set < SETS && SET[call][set] != NULL; set++) {
-            sprintf(what, "%s with NULL for %s", CALL[call], SET[call][set]);
+        for (set = 1; set < 1 << CALL[call].count; set++) {
+            sprintf(what, "%s with NULL for %s", CALL[call].name, words(call, set));
             count(what, compared[call][set] > 0 && different[call][set] == 0);
         }
     printf("%d passed, %d failed\n", passed, failed);
