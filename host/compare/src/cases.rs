@@ -1,8 +1,10 @@
-//! The cases: a call of a check or of the writer with what is handed to it, the
+//! The cases: a call of a check or of a writer with what is handed to it, the
 //! reply of both sides, and the reply that the rules state.
 
-use apart::make::ticket_length;
-use apart::{Answer, Setting};
+use apart::Answer;
+
+use crate::parts::ticket_length;
+use crate::setting::{Form, Setting, Taken};
 
 /// The calls that cases are made for.
 #[derive(Clone, Copy, Debug, PartialEq, Eq)]
@@ -10,16 +12,29 @@ pub enum Kind {
     Challenge,
     Full,
     Writer,
+    BiasChallenge,
+    BiasFull,
+    BiasWriter,
 }
 
 impl Kind {
-    pub const ALL: [Kind; 3] = [Kind::Challenge, Kind::Full, Kind::Writer];
+    pub const ALL: [Kind; 6] = [
+        Kind::Challenge,
+        Kind::Full,
+        Kind::Writer,
+        Kind::BiasChallenge,
+        Kind::BiasFull,
+        Kind::BiasWriter,
+    ];
 
     pub fn name(self) -> &'static str {
         match self {
             Kind::Challenge => "challenge check",
             Kind::Full => "full check",
             Kind::Writer => "writer",
+            Kind::BiasChallenge => "bias challenge check",
+            Kind::BiasFull => "bias full check",
+            Kind::BiasWriter => "bias writer",
         }
     }
 
@@ -29,11 +44,15 @@ impl Kind {
             Kind::Challenge => &[0, 1, 2, 3, 4, 5, 6, 7, 8, 9, 10, 11, 12],
             Kind::Full => &[0, 1, 2, 3, 4, 5, 6, 7, 8, 9, 16],
             Kind::Writer => &[0, 1, 2, 3, 13, 14, 15],
+            Kind::BiasChallenge => &[0, 1, 2, 3, 4, 5, 6, 7, 8, 9, 10, 11, 12, 17, 18],
+            Kind::BiasFull => &[0, 1, 2, 3, 4, 5, 6, 7, 8, 9, 16, 17, 18],
+            Kind::BiasWriter => &[0, 1, 2, 3, 13, 14, 15, 17, 18],
         }
     }
 }
 
-/// A call, with what is handed to it beside the setting.
+/// A call, with what is handed to it beside the setting. The setting says whether
+/// it is the call for plain tickets or that for bias tickets.
 #[derive(Clone, Copy, Debug)]
 pub enum Call<'a> {
     Challenge {
@@ -46,6 +65,8 @@ pub enum Call<'a> {
     Writer {
         a: &'a [i32],
         b: &'a [i32],
+        /// Empty for a plain ticket.
+        bias: &'a [i32],
         /// The output as it is before the call.
         output: &'a [u8],
     },
@@ -65,10 +86,13 @@ pub struct Case<'a> {
 
 impl Case<'_> {
     pub fn kind(&self) -> Kind {
-        match self.call {
-            Call::Challenge { .. } => Kind::Challenge,
-            Call::Full { .. } => Kind::Full,
-            Call::Writer { .. } => Kind::Writer,
+        match (self.call, self.setting.form()) {
+            (Call::Challenge { .. }, Form::Plain) => Kind::Challenge,
+            (Call::Full { .. }, Form::Plain) => Kind::Full,
+            (Call::Writer { .. }, Form::Plain) => Kind::Writer,
+            (Call::Challenge { .. }, Form::Bias) => Kind::BiasChallenge,
+            (Call::Full { .. }, Form::Bias) => Kind::BiasFull,
+            (Call::Writer { .. }, Form::Bias) => Kind::BiasWriter,
         }
     }
 }
@@ -77,13 +101,13 @@ impl Case<'_> {
 #[derive(Clone, Debug, PartialEq, Eq)]
 pub struct Reply {
     pub answer: Answer,
-    /// After a call of the writer its output, between bytes that were not lent;
-    /// after a check nothing.
+    /// After a call of a writer its output, between bytes that were not lent; after
+    /// a check nothing.
     pub buffer: Vec<u8>,
 }
 
 impl Reply {
-    /// The whole output of the writer, and of a check nothing.
+    /// The whole output of a writer, and of a check nothing.
     pub fn output(&self) -> &[u8] {
         let end = self.buffer.len().saturating_sub(GUARD.len());
         self.buffer.get(GUARD.len()..end).unwrap_or_default()
@@ -113,23 +137,41 @@ fn guarded(output: &[u8]) -> Vec<u8> {
 pub type Side = fn(&Case) -> Reply;
 
 pub fn library(case: &Case) -> Reply {
-    let setting = dikdumar::Setting::from(case.setting.numbers());
+    let setting = case.setting.of_library();
     let answer = |answer: dikdumar::Answer| Answer::from(answer.numbers());
     match case.call {
-        Call::Challenge { ticket, list } => Reply::from(answer(dikdumar::challenge_check(setting, ticket, list))),
-        Call::Full { ticket } => Reply::from(answer(dikdumar::full_check(setting, ticket))),
-        Call::Writer { a, b, output } => {
-            write_into(output, |output| answer(dikdumar::write_ticket(setting, a, b, output)))
-        }
+        Call::Challenge { ticket, list } => Reply::from(answer(match setting {
+            Taken::Plain(setting) => dikdumar::challenge_check(setting, ticket, list),
+            Taken::Bias(setting) => dikdumar::bias_challenge_check(setting, ticket, list),
+        })),
+        Call::Full { ticket } => Reply::from(answer(match setting {
+            Taken::Plain(setting) => dikdumar::full_check(setting, ticket),
+            Taken::Bias(setting) => dikdumar::bias_full_check(setting, ticket),
+        })),
+        Call::Writer { a, b, bias, output } => write_into(output, |output| {
+            answer(match setting {
+                Taken::Plain(setting) => dikdumar::write_ticket(setting, a, b, output),
+                Taken::Bias(setting) => dikdumar::write_bias_ticket(setting, a, b, bias, output),
+            })
+        }),
     }
 }
 
 pub fn apart(case: &Case) -> Reply {
-    let setting = &case.setting;
+    let setting = &case.setting.of_apart();
     match case.call {
-        Call::Challenge { ticket, list } => Reply::from(apart::challenge_check(setting, ticket, list)),
-        Call::Full { ticket } => Reply::from(apart::full_check(setting, ticket)),
-        Call::Writer { a, b, output } => write_into(output, |output| apart::write_ticket(setting, a, b, output)),
+        Call::Challenge { ticket, list } => Reply::from(match setting {
+            Taken::Plain(setting) => apart::challenge_check(setting, ticket, list),
+            Taken::Bias(setting) => apart::bias_challenge_check(setting, ticket, list),
+        }),
+        Call::Full { ticket } => Reply::from(match setting {
+            Taken::Plain(setting) => apart::full_check(setting, ticket),
+            Taken::Bias(setting) => apart::bias_full_check(setting, ticket),
+        }),
+        Call::Writer { a, b, bias, output } => write_into(output, |output| match setting {
+            Taken::Plain(setting) => apart::write_ticket(setting, a, b, output),
+            Taken::Bias(setting) => apart::write_bias_ticket(setting, a, b, bias, output),
+        }),
     }
 }
 
@@ -158,6 +200,8 @@ pub struct WriterCase {
     pub setting: Setting,
     pub a: Vec<i32>,
     pub b: Vec<i32>,
+    /// Empty for a plain ticket.
+    pub bias: Vec<i32>,
     pub output: Vec<u8>,
     /// What the writer does, where it is stated.
     pub expected: Option<Writing>,
@@ -196,11 +240,11 @@ pub struct Visitor<'a>(pub &'a mut dyn FnMut(&Case));
 
 impl Visitor<'_> {
     /// The challenge check of a ticket with a list, and the full check of the
-    /// ticket. Both make the tests 1 to 9 first, so a stated answer among these
-    /// is that of both.
+    /// ticket. Both make the tests 1 to 9, 17 and 18 first, so a stated answer
+    /// among these is that of both.
     pub fn checks(&mut self, case: &TicketCase) {
         self.challenge(case);
-        let of_both = case.expected.filter(|answer| (1..=9).contains(&answer.number));
+        let of_both = case.expected.filter(|answer| matches!(answer.number, 1..=9 | 17 | 18));
         self.full(case.what, &case.setting, &case.ticket, of_both);
     }
 
@@ -232,6 +276,7 @@ impl Visitor<'_> {
             call: Call::Writer {
                 a: &case.a,
                 b: &case.b,
+                bias: &case.bias,
                 output: &case.output,
             },
             expected: case
@@ -242,26 +287,44 @@ impl Visitor<'_> {
     }
 }
 
+/// The cases of a family, for the calls of one form.
+pub type Cases = fn(&mut Visitor, Form);
+
 /// A family of cases, compared as one test.
 pub struct Family {
-    pub name: &'static str,
-    pub visit: fn(&mut Visitor),
+    pub name: String,
+    pub form: Form,
+    pub cases: Cases,
+}
+
+impl Family {
+    pub fn visit(&self, visit: &mut Visitor) {
+        (self.cases)(visit, self.form);
+    }
+}
+
+/// The products of one row in the challenge check: n of the claims with X, m of
+/// the row of A, and for a bias ticket n of the bias with X.
+fn products_of_a_row(setting: &Setting) -> u32 {
+    let Setting { inner, columns, .. } = *setting;
+    match setting.form() {
+        Form::Plain => columns + inner,
+        Form::Bias => 2 * columns + inner,
+    }
+}
+
+/// The products of one vector in the challenge check, with all its rows.
+fn products_of_a_vector(setting: &Setting) -> u32 {
+    setting.inner * setting.columns + setting.rows * products_of_a_row(setting)
 }
 
 /// Accepted by the challenge check.
 pub fn accepted(setting: &Setting) -> Answer {
-    let Setting {
-        rows,
-        inner,
-        columns,
-        vectors,
-        ..
-    } = *setting;
     Answer {
         number: 0,
         place: 0,
         row: 0,
-        products: vectors * (inner * columns + rows * columns + rows * inner),
+        products: setting.vectors * products_of_a_vector(setting),
     }
 }
 
@@ -276,15 +339,13 @@ pub fn refused(number: u32, place: usize) -> Answer {
 
 /// Caught by the challenge check in vector t, row i.
 pub fn caught(setting: &Setting, t: usize, i: usize) -> Answer {
-    let Setting {
-        rows, inner, columns, ..
-    } = *setting;
     let (t, i) = (t as u32, i as u32);
+    let before = t * products_of_a_vector(setting) + setting.inner * setting.columns;
     Answer {
         number: 12,
         place: t,
         row: i,
-        products: t * (inner * columns + rows * columns + rows * inner) + inner * columns + (i + 1) * (columns + inner),
+        products: before + (i + 1) * products_of_a_row(setting),
     }
 }
 

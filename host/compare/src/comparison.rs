@@ -7,14 +7,15 @@ use digests::{Digest, Digests};
 
 use crate::cases::{Call, Case, Family, Kind, Reply, Side, Visitor, GUARD};
 use crate::outcome::{agreed, Report};
+use crate::setting::Form;
 
-/// How often the library answered, and how often with each number from 0 to 16, for
+/// How often the library answered, and how often with each number from 0 to 18, for
 /// each call in the order of `Kind::ALL`. Any other number is a difference, and so
 /// is not counted by itself.
 #[derive(Clone, Debug, Default, PartialEq, Eq)]
 pub struct Numbers {
-    cases: [u64; 3],
-    numbers: [[u64; 17]; 3],
+    cases: [u64; Kind::ALL.len()],
+    numbers: [[u64; 19]; Kind::ALL.len()],
 }
 
 impl Numbers {
@@ -62,7 +63,7 @@ pub fn compare(family: &Family, library: Side, apart: Side) -> Outcome {
         numbers: Numbers::default(),
         digest: Digest::default(),
     };
-    (family.visit)(&mut Visitor(&mut |case| {
+    family.visit(&mut Visitor(&mut |case| {
         let (by_library, by_apart) = (library(case), apart(case));
         outcome.numbers.count(case.kind(), by_library.answer.number);
         digest_reply(&mut outcome.digest, &by_library);
@@ -86,7 +87,7 @@ pub fn compare(family: &Family, library: Side, apart: Side) -> Outcome {
 
 impl Outcome {
     pub fn report(&self, family: &Family, digests: &mut Digests) -> Report {
-        let (name, compared, digest) = (family.name, self.compared, self.digest);
+        let (name, compared, digest) = (&family.name, self.compared, self.digest);
         let on_file = digests.take(name, compared, digest);
         match &self.first {
             None if compared == 0 => Err(format!("{name}: no case")),
@@ -131,20 +132,27 @@ impl Display for Difference<'_> {
             expected,
         } = self.case;
         writeln!(f, "  case {}, {}: {what}", self.index, self.case.kind().name())?;
-        writeln!(
+        write!(
             f,
             "  setting: rows {}, inner {}, columns {}, vectors {}, scale {}, bound {}, width {}",
             setting.rows, setting.inner, setting.columns, setting.vectors, setting.scale, setting.bound, setting.width
         )?;
+        match setting.bias_bound {
+            None => writeln!(f)?,
+            Some(bias_bound) => writeln!(f, ", bias bound {bias_bound}")?,
+        }
         match call {
             Call::Challenge { ticket, list } => {
                 write_ticket(f, ticket)?;
                 writeln!(f, "  list: {} numbers {list:?}", list.len())?;
             }
             Call::Full { ticket } => write_ticket(f, ticket)?,
-            Call::Writer { a, b, output } => {
+            Call::Writer { a, b, bias, output } => {
                 write_operand(f, "A", a)?;
                 write_operand(f, "B", b)?;
+                if setting.form() == Form::Bias {
+                    write_operand(f, "bias", bias)?;
+                }
                 writeln!(f, "  output: {} bytes", output.len())?;
             }
         }
@@ -218,26 +226,38 @@ mod tests {
     use std::collections::BTreeSet;
 
     use super::*;
-    use crate::cases::apart;
+    use crate::cases::{apart, Cases};
     use crate::families::craft::case_c;
     use crate::families::writer::writer_case_b;
 
-    const CHALLENGE: Family = Family {
-        name: "one challenge check",
-        visit: |visit| visit.challenge(&case_c()),
-    };
-    const FULL: Family = Family {
-        name: "one full check",
-        visit: |visit| {
-            let case = case_c();
+    /// A family of one case.
+    fn one(name: &str, form: Form, cases: Cases) -> Family {
+        Family {
+            name: name.to_owned(),
+            form,
+            cases,
+        }
+    }
+
+    fn challenge(form: Form) -> Family {
+        one("one challenge check", form, |visit, form| {
+            visit.challenge(&case_c(form))
+        })
+    }
+
+    fn full(form: Form) -> Family {
+        one("one full check", form, |visit, form| {
+            let case = case_c(form);
             let accepted = Answer::from([0, 0, 0, 8]);
             visit.full("case b", &case.setting, &case.ticket, Some(accepted));
-        },
-    };
-    const WRITER: Family = Family {
-        name: "one ticket written",
-        visit: |visit| visit.write(&writer_case_b(2)),
-    };
+        })
+    }
+
+    fn writer(form: Form) -> Family {
+        one("one ticket written", form, |visit, form| {
+            visit.write(&writer_case_b(form, 2));
+        })
+    }
 
     fn one_product_more(case: &Case) -> Reply {
         number_changed(case, 3)
@@ -275,7 +295,14 @@ mod tests {
 
     #[test]
     fn the_right_reply_passes() {
-        for (family, kind) in [(CHALLENGE, Kind::Challenge), (FULL, Kind::Full), (WRITER, Kind::Writer)] {
+        for (family, kind) in [
+            (challenge(Form::Plain), Kind::Challenge),
+            (full(Form::Plain), Kind::Full),
+            (writer(Form::Plain), Kind::Writer),
+            (challenge(Form::Bias), Kind::BiasChallenge),
+            (full(Form::Bias), Kind::BiasFull),
+            (writer(Form::Bias), Kind::BiasWriter),
+        ] {
             let outcome = compare(&family, apart, apart);
             assert_eq!((outcome.compared, outcome.differing), (1, 0));
             for each in Kind::ALL {
@@ -304,7 +331,7 @@ mod tests {
         let setting = "setting: rows 2, inner 2, columns 2, vectors 1, scale 10, bound 8, width 5";
         let record_8 = "8: 03 00 00 00 FD FF FF 7F";
         assert_parts(
-            &report(&CHALLENGE, one_product_more),
+            &report(&challenge(Form::Plain), one_product_more),
             &[
                 "challenge check: case c",
                 setting,
@@ -315,7 +342,7 @@ mod tests {
             ],
         );
         assert_parts(
-            &report(&FULL, one_product_more),
+            &report(&full(Form::Plain), one_product_more),
             &[
                 "full check: case b",
                 setting,
@@ -325,7 +352,7 @@ mod tests {
             ],
         );
         assert_parts(
-            &report(&WRITER, one_product_more),
+            &report(&writer(Form::Plain), one_product_more),
             &[
                 "writer: case b",
                 setting,
@@ -334,6 +361,43 @@ mod tests {
                 "output: 130 bytes",
                 "library: 0 128 0 9",
                 "apart:   0 128 0 8",
+            ],
+        );
+    }
+
+    #[test]
+    fn a_wrong_answer_of_a_bias_call_is_noticed() {
+        let setting = "scale 10, bound 8, width 5, bias bound 23";
+        let record_8 = "8: 05 00 00 00 FB FF FF 7F";
+        assert_parts(
+            &report(&challenge(Form::Bias), one_product_more),
+            &[
+                "bias challenge check: case c",
+                setting,
+                record_8,
+                "library: 0 0 0 17",
+                "apart:   0 0 0 16",
+            ],
+        );
+        assert_parts(
+            &report(&full(Form::Bias), one_product_more),
+            &[
+                "bias full check: case b",
+                setting,
+                record_8,
+                "library: 0 0 0 9",
+                "apart:   0 0 0 8",
+            ],
+        );
+        assert_parts(
+            &report(&writer(Form::Bias), one_product_more),
+            &[
+                "bias writer: case b",
+                setting,
+                "bias: 4 numbers [-4, 23, -23, 5]",
+                "output: 162 bytes",
+                "library: 0 160 0 9",
+                "apart:   0 160 0 8",
             ],
         );
     }
@@ -358,21 +422,23 @@ mod tests {
             ),
         ];
         for (library, part) in wrong {
-            assert_parts(&report(&WRITER, library), &["library: 0 128 0 8", part]);
+            assert_parts(&report(&writer(Form::Plain), library), &["library: 0 128 0 8", part]);
         }
     }
 
     #[test]
     fn the_same_wrong_reply_on_both_sides_is_noticed() {
         let first_byte: Side = |case| byte_changed(case, 0);
-        for (family, side) in [
-            (CHALLENGE, one_product_more as Side),
-            (FULL, one_product_more),
-            (WRITER, one_product_more),
-            (WRITER, first_byte),
-        ] {
-            let outcome = compare(&family, side, side);
-            assert_eq!((outcome.compared, outcome.differing), (1, 1));
+        for form in [Form::Plain, Form::Bias] {
+            for (family, side) in [
+                (challenge(form), one_product_more as Side),
+                (full(form), one_product_more),
+                (writer(form), one_product_more),
+                (writer(form), first_byte),
+            ] {
+                let outcome = compare(&family, side, side);
+                assert_eq!((outcome.compared, outcome.differing), (1, 1));
+            }
         }
     }
 
@@ -384,13 +450,19 @@ mod tests {
     fn the_digest_is_of_the_replies_of_the_library() {
         let mut right = Digest::default();
         right.update(&[0, 0, 0, 0, 0, 0, 0, 0, 0, 0, 0, 0, 13, 0, 0, 0]);
-        assert_eq!(digest(&CHALLENGE, one_product_more), right.to_string());
+        assert_eq!(digest(&challenge(Form::Plain), one_product_more), right.to_string());
 
         let mut right = Digest::default();
         right.update(&[0, 0, 0, 0, 128, 0, 0, 0, 0, 0, 0, 0, 9, 0, 0, 0]);
-        right.update(&case_c().ticket);
-        right.update(&writer_case_b(2).output[128..]);
-        assert_eq!(digest(&WRITER, one_product_more), right.to_string());
+        right.update(&case_c(Form::Plain).ticket);
+        right.update(&writer_case_b(Form::Plain, 2).output[128..]);
+        assert_eq!(digest(&writer(Form::Plain), one_product_more), right.to_string());
+
+        let mut right = Digest::default();
+        right.update(&[0, 0, 0, 0, 160, 0, 0, 0, 0, 0, 0, 0, 9, 0, 0, 0]);
+        right.update(&case_c(Form::Bias).ticket);
+        right.update(&writer_case_b(Form::Bias, 2).output[160..]);
+        assert_eq!(digest(&writer(Form::Bias), one_product_more), right.to_string());
     }
 
     #[test]
@@ -408,9 +480,9 @@ mod tests {
             |case| byte_changed(case, 129),
         ];
         for (family, sides) in [
-            (CHALLENGE, numbers.to_vec()),
-            (FULL, numbers.to_vec()),
-            (WRITER, [&numbers[..], &bytes].concat()),
+            (challenge(Form::Plain), numbers.to_vec()),
+            (full(Form::Plain), numbers.to_vec()),
+            (writer(Form::Plain), [&numbers[..], &bytes].concat()),
         ] {
             let digests: BTreeSet<String> = sides.iter().map(|side| digest(&family, *side)).collect();
             assert_eq!(digests.len(), sides.len(), "{}", family.name);
@@ -419,33 +491,28 @@ mod tests {
 
     #[test]
     fn the_order_of_the_replies_changes_the_digest() {
-        let one_way = Family {
-            name: "one way",
-            visit: |visit| {
-                (CHALLENGE.visit)(visit);
-                (FULL.visit)(visit);
-            },
-        };
-        let the_other = Family {
-            name: "the other",
-            visit: |visit| {
-                (FULL.visit)(visit);
-                (CHALLENGE.visit)(visit);
-            },
-        };
+        let one_way = one("one way", Form::Plain, |visit, form| {
+            challenge(form).visit(visit);
+            full(form).visit(visit);
+        });
+        let the_other = one("the other", Form::Plain, |visit, form| {
+            full(form).visit(visit);
+            challenge(form).visit(visit);
+        });
         assert_ne!(digest(&one_way, apart), digest(&the_other, apart));
     }
 
     #[test]
     fn other_replies_than_on_file_fail() {
-        let outcome = compare(&FULL, apart, apart);
-        let line = line_of(&FULL, &outcome);
+        let full = full(Form::Plain);
+        let outcome = compare(&full, apart, apart);
+        let line = line_of(&full, &outcome);
         for other in [
             String::new(),
             line.replace(": 1 ", ": 2 "),
-            line_of(&FULL, &compare(&FULL, one_product_more, apart)),
+            line_of(&full, &compare(&full, one_product_more, apart)),
         ] {
-            let report = report_on_file(&FULL, &outcome, &other).expect_err("not on file");
+            let report = report_on_file(&full, &outcome, &other).expect_err("not on file");
             let begin = "one full check: 1 cases, no difference, but FAILED: expected ";
             assert!(report.starts_with(begin), "{report}");
         }
@@ -453,10 +520,7 @@ mod tests {
 
     #[test]
     fn a_family_without_a_case_fails() {
-        let none = Family {
-            name: "none",
-            visit: |_| (),
-        };
+        let none = one("none", Form::Plain, |_, _| ());
         let outcome = compare(&none, apart, apart);
         assert!(report_on_file(&none, &outcome, &line_of(&none, &outcome)).is_err());
     }
@@ -466,14 +530,16 @@ mod tests {
         let mut numbers = Numbers::default();
         numbers.count(Kind::Full, 16);
         numbers.count(Kind::Writer, 0);
-        numbers.count(Kind::Writer, 17);
+        numbers.count(Kind::Writer, 19);
         numbers.count(Kind::Writer, u32::MAX);
+        numbers.count(Kind::BiasWriter, 18);
         let mut twice = numbers.clone();
         twice.add(&numbers);
-        assert_eq!(Kind::ALL.map(|kind| twice.cases(kind)), [0, 2, 6]);
+        assert_eq!(Kind::ALL.map(|kind| twice.cases(kind)), [0, 2, 6, 0, 0, 2]);
+        let all = [(Kind::Full, 16), (Kind::Writer, 0), (Kind::BiasWriter, 18)];
         for kind in Kind::ALL {
-            for number in 0..17 {
-                let counted = [(Kind::Full, 16), (Kind::Writer, 0)].contains(&(kind, number));
+            for number in 0..19 {
+                let counted = all.contains(&(kind, number));
                 assert_eq!(twice.of(kind, number), if counted { 2 } else { 0 });
             }
         }

@@ -1,5 +1,6 @@
 //! The families of cases for the checks and the writer.
 
+mod bias;
 mod claims;
 pub mod craft;
 mod damage;
@@ -13,187 +14,123 @@ mod settings;
 mod true_tickets;
 pub mod writer;
 
-use crate::cases::Family;
+use crate::cases::{Cases, Family};
+use crate::setting::Form;
 
-pub const ALL: [Family; 45] = [
-    Family {
-        name: "examples of the table of numbers",
-        visit: examples::table,
-    },
-    Family {
-        name: "marked examples",
-        visit: examples::marked,
-    },
-    Family {
-        name: "settings at and beyond each limit",
-        visit: settings::limits,
-    },
-    Family {
-        name: "settings with two numbers at or beyond their limits",
-        visit: settings::pairs_of_limits,
-    },
-    Family {
-        name: "settings at the edge of fitting",
-        visit: settings::edge_of_fitting,
-    },
-    Family {
-        name: "true tickets of many sizes",
-        visit: true_tickets::many_sizes,
-    },
-    Family {
-        name: "true tickets of every small size",
-        visit: true_tickets::small_sizes,
-    },
-    Family {
-        name: "one byte damaged, at every position",
-        visit: damage::every_position,
-    },
-    Family {
-        name: "one byte damaged, every position and value",
-        visit: damage::every_position_and_value,
-    },
-    Family {
-        name: "last column and last row alone false",
-        visit: damage::last_column_and_row,
-    },
-    Family {
-        name: "last records of each part alone changed",
-        visit: damage::last_records,
-    },
-    Family {
-        name: "two faults in a ticket",
-        visit: damage::two_faults,
-    },
-    Family {
-        name: "ticket lengths",
-        visit: lengths::tickets,
-    },
-    Family {
-        name: "tickets of other sizes and the same length",
-        visit: lengths::other_sizes,
-    },
-    Family {
-        name: "list lengths",
-        visit: lists::lengths,
-    },
-    Family {
-        name: "list numbers",
-        visit: lists::numbers,
-    },
-    Family {
-        name: "false tickets accepted, zeros in the false columns",
-        visit: false_tickets::zeros,
-    },
-    Family {
-        name: "false tickets accepted, differences that cancel",
-        visit: false_tickets::cancelling,
-    },
-    Family {
-        name: "false tickets caught in a later vector or row",
-        visit: false_tickets::caught_late,
-    },
-    Family {
-        name: "false tickets of two vectors by all small lists",
-        visit: false_tickets::small_lists,
-    },
-    Family {
-        name: "extreme entries",
-        visit: extremes::entries,
-    },
-    Family {
-        name: "extreme values in every record",
-        visit: extremes::values,
-    },
-    Family {
-        name: "random tickets, small",
-        visit: random::small,
-    },
-    Family {
-        name: "random tickets, medium",
-        visit: random::medium,
-    },
-    Family {
-        name: "random tickets, large",
-        visit: random::large,
-    },
-    Family {
-        name: "random settings",
-        visit: random::settings,
-    },
-    Family {
-        name: "one claim of a written ticket changed, every claim",
-        visit: claims::every_claim,
-    },
-    Family {
-        name: "one claim of a written ticket changed, many sizes",
-        visit: claims::some_claims,
-    },
-    Family {
-        name: "two claims of a written ticket changed",
-        visit: claims::two_claims,
-    },
-    Family {
-        name: "an operand of a written ticket changed",
-        visit: claims::operands,
-    },
-    Family {
-        name: "written tickets of many sizes",
-        visit: writer::operands::many_sizes,
-    },
-    Family {
-        name: "written tickets of the extreme sizes and operands",
-        visit: writer::operands::corners,
-    },
-    Family {
-        name: "written tickets of every small size",
-        visit: writer::operands::small_sizes,
-    },
-    Family {
-        name: "written tickets, the largest bound that fits",
-        visit: writer::fitting::largest_bounds,
-    },
-    Family {
-        name: "written tickets, the largest bound that fits, large sizes",
-        visit: writer::fitting::largest_bounds_of_large,
-    },
-    Family {
-        name: "written tickets, the smallest and the largest width that fits",
-        visit: writer::fitting::widths,
-    },
-    Family {
-        name: "output lengths",
-        visit: writer::outputs::lengths,
-    },
-    Family {
-        name: "operand lengths",
-        visit: writer::refusals::operand_lengths,
-    },
-    Family {
-        name: "one operand at or beyond the bound",
-        visit: writer::refusals::operands_beyond,
-    },
-    Family {
-        name: "two operands beyond the bound",
-        visit: writer::refusals::two_operands_beyond,
-    },
-    Family {
-        name: "several refusals of the writer at once",
-        visit: writer::refusals::several,
-    },
-    Family {
-        name: "random operands, small",
-        visit: writer::random::small,
-    },
-    Family {
-        name: "random operands, medium",
-        visit: writer::random::medium,
-    },
-    Family {
-        name: "random operands, large",
-        visit: writer::random::large,
-    },
-    Family {
-        name: "random settings of the writer",
-        visit: writer::random::settings,
-    },
+/// Of plain tickets alone: the examples of the scope paper.
+const PLAIN: [(&str, Cases); 2] = [
+    ("examples of the table of numbers", examples::table),
+    ("marked examples", examples::marked),
 ];
+
+/// Of both forms.
+const BOTH: [(&str, Cases); 43] = [
+    ("settings at and beyond each limit", settings::limits),
+    (
+        "settings with two numbers at or beyond their limits",
+        settings::pairs_of_limits,
+    ),
+    ("settings at the edge of fitting", settings::edge_of_fitting),
+    ("true tickets of many sizes", true_tickets::many_sizes),
+    ("true tickets of every small size", true_tickets::small_sizes),
+    ("one byte damaged, at every position", damage::every_position),
+    (
+        "one byte damaged, every position and value",
+        damage::every_position_and_value,
+    ),
+    ("last column and last row alone false", damage::last_column_and_row),
+    ("last records of each part alone changed", damage::last_records),
+    ("two faults in a ticket", damage::two_faults),
+    ("ticket lengths", lengths::tickets),
+    ("tickets of other sizes and the same length", lengths::other_sizes),
+    ("list lengths", lists::lengths),
+    ("list numbers", lists::numbers),
+    (
+        "false tickets accepted, zeros in the false columns",
+        false_tickets::zeros,
+    ),
+    (
+        "false tickets accepted, differences that cancel",
+        false_tickets::cancelling,
+    ),
+    (
+        "false tickets caught in a later vector or row",
+        false_tickets::caught_late,
+    ),
+    (
+        "false tickets of two vectors by all small lists",
+        false_tickets::small_lists,
+    ),
+    ("extreme entries", extremes::entries),
+    ("extreme values in every record", extremes::values),
+    ("random tickets, small", random::small),
+    ("random tickets, medium", random::medium),
+    ("random tickets, large", random::large),
+    ("random settings", random::settings),
+    (
+        "one claim of a written ticket changed, every claim",
+        claims::every_claim,
+    ),
+    ("one claim of a written ticket changed, many sizes", claims::some_claims),
+    ("two claims of a written ticket changed", claims::two_claims),
+    ("an operand of a written ticket changed", claims::operands),
+    ("written tickets of many sizes", writer::operands::many_sizes),
+    (
+        "written tickets of the extreme sizes and operands",
+        writer::operands::corners,
+    ),
+    ("written tickets of every small size", writer::operands::small_sizes),
+    (
+        "written tickets, the largest bound that fits",
+        writer::fitting::largest_bounds,
+    ),
+    (
+        "written tickets, the largest bound that fits, large sizes",
+        writer::fitting::largest_bounds_of_large,
+    ),
+    (
+        "written tickets, the smallest and the largest width that fits",
+        writer::fitting::widths,
+    ),
+    ("output lengths", writer::outputs::lengths),
+    ("operand lengths", writer::refusals::operand_lengths),
+    ("one operand at or beyond the bound", writer::refusals::operands_beyond),
+    ("two operands beyond the bound", writer::refusals::two_operands_beyond),
+    ("several refusals of the writer at once", writer::refusals::several),
+    ("random operands, small", writer::random::small),
+    ("random operands, medium", writer::random::medium),
+    ("random operands, large", writer::random::large),
+    ("random settings of the writer", writer::random::settings),
+];
+
+/// Of bias tickets alone.
+const BIAS: [(&str, Cases); 6] = [
+    ("examples of bias tickets", bias::examples),
+    (
+        "bias tickets, each number the largest that fits and one more",
+        bias::largest_that_fit,
+    ),
+    ("bias tickets false through the bias alone", bias::false_through_bias),
+    (
+        "bias tickets accepted, errors of the bias that cancel",
+        bias::cancelling,
+    ),
+    ("tickets handed to the calls of the other form", bias::of_the_other_form),
+    ("random bias tickets, the largest", random::largest),
+];
+
+/// All families, in the order of digests.txt.
+pub fn all() -> Vec<Family> {
+    let family = |name: String, form, cases| Family { name, form, cases };
+    let plain = PLAIN
+        .iter()
+        .chain(&BOTH)
+        .map(|&(name, cases)| family(name.to_owned(), Form::Plain, cases));
+    let both = BOTH
+        .iter()
+        .map(|&(name, cases)| family(format!("{name}, with a bias"), Form::Bias, cases));
+    let bias = BIAS
+        .iter()
+        .map(|&(name, cases)| family(name.to_owned(), Form::Bias, cases));
+    plain.chain(both).chain(bias).collect()
+}

@@ -1,10 +1,11 @@
 //! Compares every call of the proved library with the implementation written
 //! apart from it: the residue calls on all pairs of corner values and on random
-//! inputs, the two checks and the writer on families of cases. Each residue call
-//! and each family is one test, which also holds the digest of its answers to
-//! digests.txt. It is one more that the checks and the writer gave each of their
-//! numbers at some case, and one that every line of digests.txt was met. The last
-//! line says how many passed, and how many did not.
+//! inputs, the two checks and the writer, for plain tickets and for bias tickets,
+//! on families of cases. Each residue call and each family is one test, which also
+//! holds the digest of its answers to digests.txt. It is one more that the checks
+//! and the writers gave each of their numbers at some case, and one that every
+//! line of digests.txt was met. The last line says how many passed, and how many
+//! did not.
 //!
 //! Usage: `compare [--write-digests]`
 
@@ -16,7 +17,9 @@ mod families;
 mod generator;
 mod inputs;
 mod outcome;
+mod parts;
 mod residues;
+mod setting;
 
 use std::env;
 use std::ffi::OsString;
@@ -43,14 +46,15 @@ fn main() -> ExitCode {
         run.take(outcome.report(call, &mut digests));
     }
     let mut numbers = Numbers::default();
-    for family in &families::ALL {
+    let families = families::all();
+    for family in &families {
         let outcome = comparison::compare(family, cases::library, cases::apart);
         numbers.add(&outcome.numbers);
         run.take(outcome.report(family, &mut digests));
     }
     run.take(every_number(&numbers));
     run.take(digests.finish(run.failed > 0));
-    println!("{}", summary(&numbers, inputs));
+    println!("{}", summary(families.len(), &numbers, inputs));
     println!("{} passed, {} failed", run.passed, run.failed);
     if run.failed == 0 {
         ExitCode::SUCCESS
@@ -105,9 +109,9 @@ fn every_number(numbers: &Numbers) -> Report {
 
 /// How many families there are and cases of each call, how many residue calls
 /// and inputs of them, in a form that a script can read.
-fn summary(numbers: &Numbers, inputs: u64) -> String {
+fn summary(families: usize, numbers: &Numbers, inputs: u64) -> String {
     let cases = Kind::ALL.map(|kind| format!("{} {}", kind.name(), numbers.cases(kind)));
-    let (families, calls) = (families::ALL.len(), residues::CALLS.len());
+    let calls = residues::CALLS.len();
     format!(
         "families {families}, {}, residue calls {calls}, inputs {inputs}",
         cases.join(", ")
@@ -146,7 +150,7 @@ mod tests {
 
     #[test]
     fn every_number_of_the_table_is_given_by_some_call() {
-        for number in 0..=16 {
+        for number in 0..=18 {
             assert!(Kind::ALL.iter().any(|kind| kind.numbers().contains(&number)));
         }
     }
@@ -162,10 +166,10 @@ mod tests {
 
     #[test]
     fn the_summary() {
-        let families = families::ALL.len();
         assert_eq!(
-            summary(&all_but(None), 3),
-            format!("families {families}, challenge check 13, full check 11, writer 7, residue calls 7, inputs 3")
+            summary(5, &all_but(None), 3),
+            "families 5, challenge check 13, full check 11, writer 7, bias challenge check 15, bias full check 13, \
+             bias writer 9, residue calls 7, inputs 3"
         );
     }
 }

@@ -1,13 +1,27 @@
 //! The pieces that cases are made of.
 
-use apart::examples::{A, B, K};
-use apart::make::{sums, Parts};
-use apart::{Answer, Setting};
+use apart::examples::{self, A, B, BIAS};
+use apart::Answer;
 
 use crate::cases::{accepted, accepted_in_full, caught, refused, untrue, TicketCase, Visitor};
 use crate::generator::Generator;
+use crate::parts::Parts;
+use crate::setting::{Form, Setting};
 
 pub const P: u32 = apart::P as u32;
+
+pub const K: Setting = Setting::plain(examples::K);
+
+/// K with W = 23, the largest that fits.
+pub const K_WITH_BIAS: Setting = Setting::with_bias(examples::K_WITH_BIAS);
+
+/// K in either form.
+pub fn k(form: Form) -> Setting {
+    match form {
+        Form::Plain => K,
+        Form::Bias => K_WITH_BIAS,
+    }
+}
 
 /// The largest setting, with quotients of few bits.
 pub const LARGEST: Setting = Setting {
@@ -18,10 +32,11 @@ pub const LARGEST: Setting = Setting {
     scale: 1000,
     bound: 100,
     width: 11,
+    bias_bound: None,
 };
 
 /// Settings of different shapes that fit, none large.
-pub const SHAPES: [Setting; 5] = [
+const SHAPES: [Setting; 5] = [
     K,
     Setting {
         rows: 1,
@@ -31,6 +46,7 @@ pub const SHAPES: [Setting; 5] = [
         scale: 2,
         bound: 1,
         width: 1,
+        bias_bound: None,
     },
     Setting {
         rows: 3,
@@ -40,6 +56,7 @@ pub const SHAPES: [Setting; 5] = [
         scale: 65_536,
         bound: 181,
         width: 13,
+        bias_bound: None,
     },
     Setting {
         rows: 1,
@@ -49,6 +66,7 @@ pub const SHAPES: [Setting; 5] = [
         scale: 7,
         bound: 100,
         width: 28,
+        bias_bound: None,
     },
     // By one the first condition of fitting holds here.
     Setting {
@@ -59,8 +77,31 @@ pub const SHAPES: [Setting; 5] = [
         scale: 32_767,
         bound: 32_767,
         width: 16,
+        bias_bound: None,
     },
 ];
+
+/// A plain setting that fits, in either form: for bias tickets with the largest W
+/// that fits.
+pub fn in_form(setting: Setting, form: Form) -> Setting {
+    match form {
+        Form::Plain => setting,
+        Form::Bias => Setting {
+            bias_bound: Some(slack(&setting) as u32),
+            ..setting
+        },
+    }
+}
+
+/// The shapes. With a bias, W is 23, 0, 268304399, 939484090 and 1.
+pub fn shapes(form: Form) -> [Setting; 5] {
+    SHAPES.map(|setting| in_form(setting, form))
+}
+
+/// The shapes and the largest setting.
+pub fn shapes_and_largest(form: Form) -> impl Iterator<Item = Setting> {
+    shapes(form).into_iter().chain([in_form(LARGEST, form)])
+}
 
 /// A number of a setting, with its limits.
 pub struct Field {
@@ -80,7 +121,7 @@ const fn field(of: fn(&mut Setting) -> &mut u32, least: u32, greatest: u32, refu
     }
 }
 
-pub const FIELDS: [Field; 7] = [
+const FIELDS: [Field; 8] = [
     field(|setting| &mut setting.rows, 1, 32, 1),
     field(|setting| &mut setting.inner, 1, 64, 1),
     field(|setting| &mut setting.columns, 1, 32, 1),
@@ -88,13 +129,24 @@ pub const FIELDS: [Field; 7] = [
     field(|setting| &mut setting.scale, 2, 65_536, 2),
     field(|setting| &mut setting.bound, 1, 32_767, 2),
     field(|setting| &mut setting.width, 1, 30, 2),
+    field(|setting| setting.bias_bound.get_or_insert(0), 0, 1 << 30, 17),
 ];
 
+/// The numbers of a setting of this form.
+pub fn fields(form: Form) -> &'static [Field] {
+    const ALL: &[Field] = &FIELDS;
+    match form {
+        Form::Plain => &ALL[..7],
+        Form::Bias => ALL,
+    }
+}
+
 /// What is left on the right of the first condition of fitting, m·T² + α - 1 ≤
-/// 2^(v-1)·α, within the limits.
+/// 2^(v-1)·α, or m·T² + W + α - 1 ≤ 2^(v-1)·α, within the limits.
 pub fn slack(setting: &Setting) -> i64 {
     let [m, t, alpha] = [setting.inner, setting.bound, setting.scale].map(i64::from);
-    (alpha << (setting.width - 1)) - (m * t * t + alpha - 1)
+    let w = i64::from(setting.greatest_bias());
+    (alpha << (setting.width - 1)) - (m * t * t + w + alpha - 1)
 }
 
 /// Whether a setting within the limits fits.
@@ -103,8 +155,35 @@ pub fn fits(setting: &Setting) -> bool {
 }
 
 /// A setting of the given sizes that fits: a bound of any number of bits, then
-/// any scale and width that go with it.
-pub fn fitting(generator: &mut Generator, [rows, inner, columns, vectors]: [u32; 4]) -> Setting {
+/// any scale and width that go with it, and then any W.
+pub fn fitting(generator: &mut Generator, form: Form, sizes: [u32; 4]) -> Setting {
+    let setting = plain_fitting(generator, sizes);
+    match form {
+        Form::Plain => setting,
+        Form::Bias => Setting {
+            bias_bound: Some(some_bias_bound(generator, &setting)),
+            ..setting
+        },
+    }
+}
+
+/// A W with which a plain setting that fits still does: the largest that there
+/// is, which makes quotients come near the ends of their range, 0, or one of any
+/// number of bits.
+fn some_bias_bound(generator: &mut Generator, setting: &Setting) -> u32 {
+    let largest = slack(setting);
+    let bound = match generator.below(8) {
+        0..3 => largest,
+        3 => 0,
+        _ => {
+            let bits = generator.between(1, 30);
+            generator.between(0, largest.min((1 << bits) - 1))
+        }
+    };
+    bound as u32
+}
+
+fn plain_fitting(generator: &mut Generator, [rows, inner, columns, vectors]: [u32; 4]) -> Setting {
     loop {
         let bits = generator.between(1, 15);
         let bound = generator.between(1, (1 << bits) - 1) as u32;
@@ -133,12 +212,22 @@ pub fn sizes(setting: &Setting) -> [usize; 4] {
     [setting.rows, setting.inner, setting.columns, setting.vectors].map(|size| size as usize)
 }
 
+/// How many numbers A, B and the bias have, and how many claims there are.
+pub fn counts(setting: &Setting) -> [usize; 4] {
+    let [rows, inner, columns, _] = sizes(setting);
+    let of_bias = match setting.form() {
+        Form::Plain => 0,
+        Form::Bias => rows * columns,
+    };
+    [rows * inner, inner * columns, of_bias, rows * columns]
+}
+
 /// The parts of a true ticket with random entries, one in eight of them at an
 /// end of the range.
 pub fn true_parts(generator: &mut Generator, setting: &Setting) -> Parts {
-    let [rows, inner, columns, _] = sizes(setting);
-    let bound = i64::from(setting.bound);
-    let mut matrix = |count| -> Vec<i64> {
+    let [of_a, of_b, of_bias, _] = counts(setting);
+    let mut matrix = |count, bound: u32| -> Vec<i64> {
+        let bound = i64::from(bound);
         (0..count)
             .map(|_| match generator.below(16) {
                 0 => bound,
@@ -147,20 +236,22 @@ pub fn true_parts(generator: &mut Generator, setting: &Setting) -> Parts {
             })
             .collect()
     };
-    let (a, b) = (matrix(rows * inner), matrix(inner * columns));
-    Parts::true_ones(setting, &a, &b)
+    let a = matrix(of_a, setting.bound);
+    let b = matrix(of_b, setting.bound);
+    let bias = matrix(of_bias, setting.greatest_bias());
+    Parts::true_ones(setting, &a, &b, &bias)
 }
 
-/// The ticket of zeros only, which is true.
-pub fn zeros(setting: &Setting) -> Vec<u8> {
-    let [rows, inner, columns, _] = sizes(setting);
+/// The parts that are zeros only, whose ticket is true.
+pub fn zeros(setting: &Setting) -> Parts {
+    let [of_a, of_b, of_bias, claims] = counts(setting);
     Parts {
-        a: vec![0; rows * inner],
-        b: vec![0; inner * columns],
-        quotients: vec![0; rows * columns],
-        remainders: vec![0; rows * columns],
+        a: vec![0; of_a],
+        b: vec![0; of_b],
+        bias: vec![0; of_bias],
+        quotients: vec![0; claims],
+        remainders: vec![0; claims],
     }
-    .ticket(setting)
 }
 
 /// A list of the right length with random residues, one in eight of them 0, 1 or
@@ -186,12 +277,17 @@ pub fn list_without_zero(generator: &mut Generator, setting: &Setting) -> Vec<u3
     list
 }
 
-/// Puts another claim within the ranges at row i, column j. It is untrue when
-/// the former was true: αq + r takes each value once.
+/// Puts another claim, or another entry of the bias, within the ranges at row i,
+/// column j. The claim is untrue when the former was true: αq + r takes each value
+/// once.
 pub fn falsify(generator: &mut Generator, setting: &Setting, parts: &mut Parts, i: usize, j: usize) {
+    let place = i * setting.columns as usize + j;
+    if setting.greatest_bias() > 0 && generator.once_in(3) {
+        falsify_bias(generator, setting, parts, place);
+        return;
+    }
     let half = 1 << (setting.width - 1);
     let alpha = i64::from(setting.scale);
-    let place = i * setting.columns as usize + j;
     let (quotient, remainder) = (parts.quotients[place], parts.remainders[place]);
     loop {
         let (other_quotient, other_remainder) = match generator.below(4) {
@@ -209,10 +305,29 @@ pub fn falsify(generator: &mut Generator, setting: &Setting, parts: &mut Parts, 
     }
 }
 
-/// αq + r - S in every place, row by row.
+/// Puts another entry of the bias within its range, which is not 0 alone, at a
+/// place i·n + j.
+pub fn falsify_bias(generator: &mut Generator, setting: &Setting, parts: &mut Parts, place: usize) {
+    let bound = i64::from(setting.greatest_bias());
+    let entry = parts.bias[place];
+    loop {
+        let other = match generator.below(4) {
+            0 => entry + generator.choose(&[-1, 1]),
+            1 => generator.choose(&[-bound, bound]),
+            _ => generator.between(-bound, bound),
+        };
+        if other.abs() <= bound && other != entry {
+            parts.bias[place] = other;
+            return;
+        }
+    }
+}
+
+/// αq + r - S, or αq + r - S - c, in every place, row by row.
 pub fn differences(setting: &Setting, parts: &Parts) -> Vec<i128> {
     let alpha = i128::from(setting.scale);
-    sums(setting, &parts.a, &parts.b)
+    parts
+        .sums(setting)
         .into_iter()
         .zip(parts.quotients.iter().zip(&parts.remainders))
         .map(|(sum, (&q, &r))| alpha * i128::from(q) + i128::from(r) - sum)
@@ -237,13 +352,18 @@ pub fn by_sums(setting: &Setting, parts: &Parts, list: &[u32]) -> Answer {
 }
 
 /// The full check's answer to a ticket whose entries of A and B are within their
-/// range: its first quotient out of range, then its first remainder, then its
-/// first claim that is not true.
+/// range: its first entry of the bias out of range, then its first quotient, then
+/// its first remainder, then its first claim that is not true.
 pub fn full_by_sums(setting: &Setting, parts: &Parts) -> Answer {
+    let w = i64::from(setting.greatest_bias());
     let half = 1 << (setting.width - 1);
     let alpha = i64::from(setting.scale);
-    let first_quotient = parts.a.len() + parts.b.len();
+    let first_bias = parts.a.len() + parts.b.len();
+    let first_quotient = first_bias + parts.bias.len();
     let first_remainder = first_quotient + parts.quotients.len();
+    if let Some(index) = parts.bias.iter().position(|c| c.abs() > w) {
+        return refused(18, first_bias + index);
+    }
     if let Some(index) = parts.quotients.iter().position(|q| !(-half..half).contains(q)) {
         return refused(8, first_quotient + index);
     }
@@ -277,14 +397,15 @@ pub fn claims_case(what: &'static str, setting: &Setting, parts: &Parts, list: &
     }
 }
 
-/// The true ticket of K with X = (1, 2), case c.
-pub fn case_c() -> TicketCase {
+/// The true ticket of K with X = (1, 2), case c, or the same with a bias.
+pub fn case_c(form: Form) -> TicketCase {
+    let setting = k(form);
     TicketCase {
         what: "case c",
-        setting: K,
-        ticket: apart::true_ticket(&K, &A, &B),
+        setting,
+        ticket: Parts::true_ones(&setting, &A, &B, &BIAS).ticket(&setting),
         list: vec![1, 2],
-        expected: Some(accepted(&K)),
+        expected: Some(accepted(&setting)),
     }
 }
 

@@ -1,14 +1,17 @@
 //! Tickets that are damaged in single places.
 
-use apart::make::{residue, Parts};
-use apart::{Answer, Setting};
+use apart::make::residue;
+use apart::Answer;
 
 use super::craft::{
-    case_c, claims_case, falsify, fitting, list, list_without_zero, set_value, sizes, true_parts, LARGEST, P, SHAPES,
+    case_c, claims_case, counts, falsify, fitting, list, list_without_zero, set_value, shapes, shapes_and_largest,
+    sizes, true_parts, P,
 };
 use super::true_tickets::sizes_and_largest;
 use crate::cases::{caught, refused, untrue, TicketCase, Visitor};
 use crate::generator::Generator;
+use crate::parts::Parts;
+use crate::setting::{Form, Setting};
 
 /// A true ticket with a random list, whose damage is not yet done.
 fn case_to_damage(generator: &mut Generator, setting: &Setting) -> TicketCase {
@@ -23,9 +26,9 @@ fn case_to_damage(generator: &mut Generator, setting: &Setting) -> TicketCase {
 }
 
 /// Every byte of small tickets, by one bit each, by all and by one up and down.
-pub fn every_position(visit: &mut Visitor) {
+pub fn every_position(visit: &mut Visitor, form: Form) {
     let mut generator = Generator::new(201);
-    for setting in &SHAPES {
+    for setting in &shapes(form) {
         let mut case = case_to_damage(&mut generator, setting);
         for index in 0..case.ticket.len() {
             let right = case.ticket[index];
@@ -41,9 +44,10 @@ pub fn every_position(visit: &mut Visitor) {
 }
 
 /// Every byte of the ticket of case c and of that of case d, at all 256 values.
-pub fn every_position_and_value(visit: &mut Visitor) {
-    let true_one = case_c();
-    let mut false_one = case_c();
+/// With a bias record 8 is the first entry of the bias, else the first quotient.
+pub fn every_position_and_value(visit: &mut Visitor, form: Form) {
+    let true_one = case_c(form);
+    let mut false_one = case_c(form);
     set_value(&mut false_one.ticket, 8, residue(-1));
     for (ticket, list) in [(&true_one.ticket, [1, 2]), (&false_one.ticket, [0, 5])] {
         let mut case = TicketCase {
@@ -51,7 +55,7 @@ pub fn every_position_and_value(visit: &mut Visitor) {
             ticket: ticket.clone(),
             list: list.to_vec(),
             expected: None,
-            ..case_c()
+            ..case_c(form)
         };
         for (index, &right) in ticket.iter().enumerate() {
             for value in 0..=255 {
@@ -65,10 +69,10 @@ pub fn every_position_and_value(visit: &mut Visitor) {
 
 /// One untrue claim, in the last column, the last row or both, and a list that
 /// catches it. The list may be 0 everywhere else.
-pub fn last_column_and_row(visit: &mut Visitor) {
+pub fn last_column_and_row(visit: &mut Visitor, form: Form) {
     let mut generator = Generator::new(202);
     for sizes_of_ticket in sizes_and_largest() {
-        let setting = fitting(&mut generator, sizes_of_ticket);
+        let setting = fitting(&mut generator, form, sizes_of_ticket);
         let [rows, _, columns, _] = sizes(&setting);
         let right = true_parts(&mut generator, &setting);
         let places = [
@@ -105,11 +109,16 @@ pub fn last_column_and_row(visit: &mut Visitor) {
 }
 
 /// The first and the last record of each part alone: another number within the
-/// range, one out of range, and each of its first four bytes.
-pub fn last_records(visit: &mut Visitor) {
+/// range, one out of range, and each of its first four bytes. Bias tickets are of
+/// fewer sizes.
+pub fn last_records(visit: &mut Visitor, form: Form) {
     let mut generator = Generator::new(203);
-    for sizes_of_ticket in sizes_and_largest() {
-        let setting = fitting(&mut generator, sizes_of_ticket);
+    let step = match form {
+        Form::Plain => 1,
+        Form::Bias => 3,
+    };
+    for sizes_of_ticket in sizes_and_largest().step_by(step) {
+        let setting = fitting(&mut generator, form, sizes_of_ticket);
         let mut case = case_to_damage(&mut generator, &setting);
         let right = case.ticket.clone();
         for (first, count, number, out_of_range) in parts_of(&setting) {
@@ -139,16 +148,18 @@ pub fn last_records(visit: &mut Visitor) {
 }
 
 /// For each part its first record, how many it has, the number of its range and
-/// a value just outside.
-fn parts_of(setting: &Setting) -> [(usize, usize, u32, u32); 4] {
-    let [rows, inner, columns, _] = sizes(setting);
-    let (a, b, claims) = (rows * inner, inner * columns, rows * columns);
-    [
+/// a value just outside. A plain ticket has no bias.
+fn parts_of(setting: &Setting) -> Vec<(usize, usize, u32, u32)> {
+    let [a, b, bias, claims] = counts(setting);
+    let mut parts = vec![
         (0, a, 7, setting.bound + 1),
         (a, b, 7, P - setting.bound - 1),
-        (a + b, claims, 8, 1 << (setting.width - 1)),
-        (a + b + claims, claims, 9, setting.scale),
-    ]
+        (a + b, bias, 18, P - setting.greatest_bias() - 1),
+        (a + b + bias, claims, 8, 1 << (setting.width - 1)),
+        (a + b + bias + claims, claims, 9, setting.scale),
+    ];
+    parts.retain(|&(_, count, ..)| count > 0);
+    parts
 }
 
 /// What can be wrong with a record.
@@ -196,9 +207,9 @@ fn spoil(setting: &Setting, ticket: &mut [u8], record: usize, fault: Fault) -> u
 
 /// Two faults in two records, or in one, with lists right and wrong: the first
 /// record decides, and in it the lower number.
-pub fn two_faults(visit: &mut Visitor) {
+pub fn two_faults(visit: &mut Visitor, form: Form) {
     let mut generator = Generator::new(204);
-    for setting in &SHAPES {
+    for setting in &shapes(form) {
         let right = case_to_damage(&mut generator, setting);
         let records = right.ticket.len() / 8;
         for one in 0..records {
@@ -230,15 +241,15 @@ pub fn two_faults(visit: &mut Visitor) {
             }
         }
     }
-    visit_faults_of_all(visit);
+    visit_faults_of_all(visit, form);
 }
 
 /// One fault more and more, from the last test to the first: a false claim, a
-/// list number, the list's length, a record, the ticket's length, and the three
-/// of the setting. Each later one decides.
-fn visit_faults_of_all(visit: &mut Visitor) {
+/// list number, the list's length, a record, the ticket's length, and those of the
+/// setting. Each later one decides.
+fn visit_faults_of_all(visit: &mut Visitor, form: Form) {
     let mut generator = Generator::new(205);
-    for setting in SHAPES.into_iter().chain([LARGEST]) {
+    for setting in shapes_and_largest(form) {
         let mut parts: Parts = true_parts(&mut generator, &setting);
         falsify(&mut generator, &setting, &mut parts, 0, 0);
         let list = list_without_zero(&mut generator, &setting);
@@ -263,6 +274,10 @@ fn visit_faults_of_all(visit: &mut Visitor) {
         case.setting.scale = 65_536;
         case.setting.width = 30;
         next(&mut case, refused(3, 0));
+        if form == Form::Bias {
+            case.setting.bias_bound = Some((1 << 30) + 1);
+            next(&mut case, refused(17, 0));
+        }
         case.setting.width = 31;
         next(&mut case, refused(2, 0));
         case.setting.vectors = 9;

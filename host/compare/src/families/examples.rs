@@ -1,12 +1,14 @@
 //! The examples of the scope paper, with the answers that it states.
 
-use apart::examples::{with_claims, B, K, TICKET};
+use apart::examples::{self, with_claims, B, TICKET};
 use apart::make::residue;
-use apart::{Answer, Setting};
+use apart::Answer;
 
-use super::craft::{case_c, set_value, P};
-use super::writer::writer_case_b;
+use super::craft::{self, set_value, K, P};
+use super::writer;
 use crate::cases::{refused, TicketCase, Visitor, WriterCase, Writing};
+use crate::parts::Parts;
+use crate::setting::{Form, Setting};
 
 const ACCEPTED: Answer = Answer {
     number: 0,
@@ -41,6 +43,14 @@ const UNTRUE: Answer = Answer {
 /// The true claims under K.
 const QUOTIENTS: [i64; 4] = [-2, 3, 2, -1];
 const REMAINDERS: [i64; 4] = [3, 4, 3, 8];
+
+fn case_c() -> TicketCase {
+    craft::case_c(Form::Plain)
+}
+
+fn writer_case_b(past: usize) -> WriterCase {
+    writer::writer_case_b(Form::Plain, past)
+}
 
 /// The ticket of case d.
 fn first_quotient_false() -> Vec<u8> {
@@ -80,7 +90,7 @@ fn ticket(what: &'static str, ticket: Vec<u8>, list: [u32; 2], expected: Answer)
 
 /// The rows of the table, in order. Those of 1 to 3 are tried with the writer
 /// too.
-pub fn table(visit: &mut Visitor) {
+pub fn table(visit: &mut Visitor, _: Form) {
     visit.checks(&setting("K with n = 33", Setting { columns: 33, ..K }, 1));
     visit.checks(&setting("K with α = 1", Setting { scale: 1, ..K }, 2));
     visit.checks(&setting("K with v = 4", Setting { width: 4, ..K }, 3));
@@ -138,7 +148,7 @@ fn refusal(what: &'static str, setting: Setting, answer: Answer) -> WriterCase {
 }
 
 /// The marked examples.
-pub fn marked(visit: &mut Visitor) {
+pub fn marked(visit: &mut Visitor, _: Form) {
     visit.checks(&ticket(
         "cases a and b",
         with_claims(QUOTIENTS, REMAINDERS),
@@ -183,7 +193,7 @@ pub fn marked(visit: &mut Visitor) {
     visit.checks(&setting("case i, T = 9", Setting { bound: 9, ..K }, 3));
     visit.checks(&ticket(
         "case i, entry -8",
-        apart::true_ticket(&K, &[-8, -2, 5, 4], &B),
+        apart::true_ticket(&examples::K, &[-8, -2, 5, 4], &B),
         [1, 2],
         ACCEPTED,
     ));
@@ -191,19 +201,11 @@ pub fn marked(visit: &mut Visitor) {
     visit.checks(&value("case j, quotient 15", 8, residue(15), CAUGHT));
     visit.checks(&value("case j, quotient -17", 8, residue(-17), refused(8, 8)));
     // S = 1 here, and both sides of the claim are 1.
-    let narrow = Setting {
-        rows: 1,
-        inner: 1,
-        columns: 1,
-        vectors: 1,
-        scale: 65_536,
-        bound: 1,
-        width: 14,
-    };
+    let narrow = Setting::from([1, 1, 1, 1, 65_536, 1, 14]);
     let one = TicketCase {
         what: "case k, v = 14",
         setting: narrow,
-        ticket: apart::true_ticket(&narrow, &[1], &[1]),
+        ticket: Parts::true_ones(&narrow, &[1], &[1], &[]).ticket(&narrow),
         list: vec![1],
         expected: Some(Answer {
             products: 3,

@@ -1,27 +1,20 @@
 //! Entries, quotients and remainders at the ends of their ranges and just
 //! outside.
 
-use apart::make::{residue, Parts};
-use apart::Setting;
+use apart::make::residue;
 
 use super::craft::{
-    by_sums, claims_case, full_by_sums, list_without_zero, set_value, sizes, true_parts, visit_claims, LARGEST, P,
-    SHAPES,
+    by_sums, claims_case, counts, full_by_sums, in_form, list_without_zero, set_value, shapes, true_parts,
+    visit_claims, LARGEST, P,
 };
 use crate::cases::{refused, TicketCase, Visitor};
 use crate::generator::Generator;
+use crate::parts::Parts;
+use crate::setting::{Form, Setting};
 
 /// Settings at the ends of what fits, and the small shapes.
-fn settings() -> impl Iterator<Item = Setting> {
-    let of_two = |scale, bound, width| Setting {
-        rows: 2,
-        inner: 1,
-        columns: 2,
-        vectors: 2,
-        scale,
-        bound,
-        width,
-    };
+fn settings(form: Form) -> impl Iterator<Item = Setting> {
+    let of_two = |scale, bound, width| in_form(Setting::from([2, 1, 2, 2, scale, bound, width]), form);
     let narrow_and_wide = [
         // v = 1: the quotients are -1 and 0.
         of_two(2, 1, 1),
@@ -31,12 +24,14 @@ fn settings() -> impl Iterator<Item = Setting> {
         of_two(3, 28_377, 29),
         of_two(65_535, 32_766, 15),
     ];
-    SHAPES.into_iter().chain(narrow_and_wide)
+    // With a bias, the largest W that fits at all.
+    let widest_bias = (form == Form::Bias).then(|| of_two(32_767, 1, 16));
+    shapes(form).into_iter().chain(narrow_and_wide).chain(widest_bias)
 }
 
-/// Every entry of A and B at T or -T, in patterns that make the sums the largest
-/// and the smallest and change between.
-pub fn entries(visit: &mut Visitor) {
+/// Every entry of A and B at T or -T, and of the bias at W or -W, in patterns that
+/// make the sums the largest and the smallest and change between.
+pub fn entries(visit: &mut Visitor, form: Form) {
     let mut generator = Generator::new(601);
     let widest = Setting {
         scale: 7,
@@ -44,9 +39,10 @@ pub fn entries(visit: &mut Visitor) {
         width: 28,
         ..LARGEST
     };
-    for setting in settings().chain([LARGEST, widest]) {
-        let [rows, inner, columns, _] = sizes(&setting);
-        let bound = i64::from(setting.bound);
+    let large = [LARGEST, widest].map(|setting| in_form(setting, form));
+    for setting in settings(form).chain(large) {
+        let [of_a, of_b, of_bias, _] = counts(&setting);
+        let [bound, bias_bound] = [setting.bound, setting.greatest_bias()].map(i64::from);
         let patterns: [fn(usize) -> i64; 4] = [
             |_| 1,
             |_| -1,
@@ -55,9 +51,12 @@ pub fn entries(visit: &mut Visitor) {
         ];
         for in_a in patterns {
             for in_b in patterns {
-                let a: Vec<i64> = (0..rows * inner).map(|index| bound * in_a(index)).collect();
-                let b: Vec<i64> = (0..inner * columns).map(|index| bound * in_b(index)).collect();
-                let parts = Parts::true_ones(&setting, &a, &b);
+                let a: Vec<i64> = (0..of_a).map(|index| bound * in_a(index)).collect();
+                let b: Vec<i64> = (0..of_b).map(|index| bound * in_b(index)).collect();
+                let bias: Vec<i64> = (0..of_bias)
+                    .map(|index| bias_bound * in_a(index) * in_b(index))
+                    .collect();
+                let parts = Parts::true_ones(&setting, &a, &b, &bias);
                 let list = list_without_zero(&mut generator, &setting);
                 visit_claims(visit, "entries T and -T", &setting, &parts, &list);
                 visit.challenge(&claims_case(
@@ -87,9 +86,9 @@ fn visit_extreme_claims(visit: &mut Visitor, setting: &Setting, parts: &Parts, l
 }
 
 /// In every record each value at an end of a range, and next to it.
-pub fn values(visit: &mut Visitor) {
+pub fn values(visit: &mut Visitor, form: Form) {
     let mut generator = Generator::new(602);
-    for setting in settings() {
+    for setting in settings(form) {
         let right = true_parts(&mut generator, &setting);
         let list = list_without_zero(&mut generator, &setting);
         let mut case = TicketCase {
@@ -99,12 +98,14 @@ pub fn values(visit: &mut Visitor) {
             list,
             expected: None,
         };
-        let [rows, inner, columns, _] = sizes(&setting);
-        let (a, b, claims) = (rows * inner, inner * columns, rows * columns);
-        let bound = i64::from(setting.bound);
+        let [a, b, bias, claims] = counts(&setting);
+        let [bound, bias_bound] = [setting.bound, setting.greatest_bias()].map(i64::from);
         let alpha = i64::from(setting.scale);
         let half = 1 << (setting.width - 1);
-        let ends = [0, bound, -bound, half, -half, 2 * half, -2 * half, alpha, -alpha];
+        let mut ends = vec![0, bound, -bound, half, -half, 2 * half, -2 * half, alpha, -alpha];
+        if form == Form::Bias {
+            ends.extend([bias_bound, -bias_bound]);
+        }
         let near = ends.iter().flat_map(|&end| end - 2..=end + 2);
         let middle = i64::from(P / 2);
         let entries: Vec<i64> = near.chain(-middle..=-middle + 1).chain(middle - 1..=middle).collect();
@@ -117,10 +118,13 @@ pub fn values(visit: &mut Visitor) {
                     (&mut parts.a[record], entry.abs() <= bound, 7)
                 } else if record < a + b {
                     (&mut parts.b[record - a], entry.abs() <= bound, 7)
-                } else if record < a + b + claims {
-                    (&mut parts.quotients[record - a - b], (-half..half).contains(&entry), 8)
+                } else if record < a + b + bias {
+                    (&mut parts.bias[record - a - b], entry.abs() <= bias_bound, 18)
+                } else if record < a + b + bias + claims {
+                    let place = &mut parts.quotients[record - a - b - bias];
+                    (place, (-half..half).contains(&entry), 8)
                 } else {
-                    let place = &mut parts.remainders[record - a - b - claims];
+                    let place = &mut parts.remainders[record - a - b - bias - claims];
                     (place, (0..alpha).contains(&entry), 9)
                 };
                 *place = entry;

@@ -1,21 +1,20 @@
 //! False tickets within the ranges: accepted with lists made for it, caught by
 //! the others, early or late.
 
-use apart::make::Parts;
-use apart::Setting;
-
 use super::craft::{
     claims_case, differences, falsify, fitting, full_by_sums, list, list_without_zero, sizes, sizes_up_to, true_parts,
     visit_claims, P,
 };
 use crate::cases::{accepted, caught, untrue, TicketCase, Visitor};
 use crate::generator::Generator;
+use crate::parts::Parts;
+use crate::setting::{Form, Setting};
 
 const SMALL: [u32; 4] = [5, 5, 5, 8];
 
 /// Visits a case that is accepted, and the same with one number of the list
 /// changed, which mostly is not.
-fn visit_accepted(visit: &mut Visitor, generator: &mut Generator, setting: &Setting, parts: &Parts, list: &[u32]) {
+pub fn visit_accepted(visit: &mut Visitor, generator: &mut Generator, setting: &Setting, parts: &Parts, list: &[u32]) {
     visit.challenge(&TicketCase {
         what: "false, the list made for it",
         setting: *setting,
@@ -30,12 +29,12 @@ fn visit_accepted(visit: &mut Visitor, generator: &mut Generator, setting: &Sett
 }
 
 /// Some columns are false, in some rows, and X(j) is 0 in each of these.
-pub fn zeros(visit: &mut Visitor) {
+pub fn zeros(visit: &mut Visitor, form: Form) {
     let mut generator = Generator::new(501);
     for round in 0..10_000 {
         let most = if round % 100 == 0 { [32, 64, 32, 8] } else { SMALL };
         let sizes_of_ticket = sizes_up_to(&mut generator, most);
-        let setting = fitting(&mut generator, sizes_of_ticket);
+        let setting = fitting(&mut generator, form, sizes_of_ticket);
         let [rows, _, columns, _] = sizes(&setting);
         let mut parts = true_parts(&mut generator, &setting);
         let mut list = list(&mut generator, &setting);
@@ -78,26 +77,26 @@ fn inverse(x: u64) -> u64 {
 /// the same step up in one column and down in another, so that equal numbers
 /// cancel them; in two rows over three columns, whose vector product is at right
 /// angles to both.
-pub fn cancelling(visit: &mut Visitor) {
+pub fn cancelling(visit: &mut Visitor, form: Form) {
     let mut generator = Generator::new(502);
     for _ in 0..5_000 {
-        one_row(visit, &mut generator);
-        same_steps(visit, &mut generator);
-        two_rows(visit, &mut generator);
+        one_row(visit, &mut generator, form);
+        same_steps(visit, &mut generator, form);
+        two_rows(visit, &mut generator, form);
     }
 }
 
 /// A small setting of at least two columns, and the parts of a true ticket.
-fn two_columns_or_more(generator: &mut Generator) -> (Setting, Parts) {
+fn two_columns_or_more(generator: &mut Generator, form: Form) -> (Setting, Parts) {
     let mut sizes_of_ticket = sizes_up_to(generator, SMALL);
     sizes_of_ticket[2] += 1;
-    let setting = fitting(generator, sizes_of_ticket);
+    let setting = fitting(generator, form, sizes_of_ticket);
     let parts = true_parts(generator, &setting);
     (setting, parts)
 }
 
-fn one_row(visit: &mut Visitor, generator: &mut Generator) {
-    let (setting, mut parts) = two_columns_or_more(generator);
+fn one_row(visit: &mut Visitor, generator: &mut Generator, form: Form) {
+    let (setting, mut parts) = two_columns_or_more(generator, form);
     let [rows, _, columns, _] = sizes(&setting);
     let i = generator.below(rows);
     for j in 0..columns {
@@ -117,8 +116,8 @@ fn one_row(visit: &mut Visitor, generator: &mut Generator) {
     visit_accepted(visit, generator, &setting, &parts, &list);
 }
 
-fn same_steps(visit: &mut Visitor, generator: &mut Generator) {
-    let (setting, mut parts) = two_columns_or_more(generator);
+fn same_steps(visit: &mut Visitor, generator: &mut Generator, form: Form) {
+    let (setting, mut parts) = two_columns_or_more(generator, form);
     let [rows, _, columns, _] = sizes(&setting);
     let up = generator.below(columns);
     let down = (up + 1 + generator.below(columns - 1)) % columns;
@@ -137,9 +136,9 @@ fn same_steps(visit: &mut Visitor, generator: &mut Generator) {
     visit_accepted(visit, generator, &setting, &parts, &list);
 }
 
-fn two_rows(visit: &mut Visitor, generator: &mut Generator) {
+fn two_rows(visit: &mut Visitor, generator: &mut Generator, form: Form) {
     let [_, inner, _, vectors] = sizes_up_to(generator, SMALL);
-    let setting = fitting(generator, [2, inner, 3, vectors]);
+    let setting = fitting(generator, form, [2, inner, 3, vectors]);
     let mut parts = true_parts(generator, &setting);
     for i in 0..2 {
         for j in 0..3 {
@@ -160,7 +159,7 @@ fn two_rows(visit: &mut Visitor, generator: &mut Generator) {
 
 /// False in one row only, and every vector before t is 0 in its false columns:
 /// caught in vector t and that row, and in no other.
-pub fn caught_late(visit: &mut Visitor) {
+pub fn caught_late(visit: &mut Visitor, form: Form) {
     let mut generator = Generator::new(503);
     for round in 0..24 {
         let [rows, inner, columns, _] = match round {
@@ -170,7 +169,7 @@ pub fn caught_late(visit: &mut Visitor) {
             _ => sizes_up_to(&mut generator, [6, 6, 6, 8]),
         };
         for vectors in 1..=8 {
-            let setting = fitting(&mut generator, [rows, inner, columns, vectors]);
+            let setting = fitting(&mut generator, form, [rows, inner, columns, vectors]);
             let right = true_parts(&mut generator, &setting);
             let [rows, _, columns, vectors] = sizes(&setting);
             for t in 0..vectors {
@@ -204,11 +203,11 @@ pub fn caught_late(visit: &mut Visitor) {
 
 /// One and two untrue claims under two vectors of two numbers, each number of the
 /// list being 0, 1, 2, p - 2 or p - 1.
-pub fn small_lists(visit: &mut Visitor) {
+pub fn small_lists(visit: &mut Visitor, form: Form) {
     let mut generator = Generator::new(504);
     let numbers = [0, 1, 2, P - 2, P - 1];
     for _ in 0..12 {
-        let setting = fitting(&mut generator, [2, 3, 2, 2]);
+        let setting = fitting(&mut generator, form, [2, 3, 2, 2]);
         let mut parts = true_parts(&mut generator, &setting);
         for _ in 0..=generator.below(2) {
             let (i, j) = (generator.below(2), generator.below(2));

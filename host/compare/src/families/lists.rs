@@ -1,14 +1,15 @@
 //! Lists of other lengths, and list numbers at and beyond p. The full check takes
 //! no list, so it is asked once for each ticket.
 
-use super::craft::{list, true_parts, LARGEST, P, SHAPES};
+use super::craft::{list, shapes_and_largest, true_parts, P};
 use crate::cases::{accepted, accepted_in_full, refused, TicketCase, Visitor};
 use crate::generator::Generator;
+use crate::setting::Form;
 
 /// Every length from 0 to some numbers past the right one.
-pub fn lengths(visit: &mut Visitor) {
+pub fn lengths(visit: &mut Visitor, form: Form) {
     let mut generator = Generator::new(401);
-    for setting in SHAPES.into_iter().chain([LARGEST]) {
+    for setting in shapes_and_largest(form) {
         let ticket = true_parts(&mut generator, &setting).ticket(&setting);
         visit.full(
             "the ticket of the lists",
@@ -37,9 +38,9 @@ pub fn lengths(visit: &mut Visitor) {
 }
 
 /// Numbers around p, and the largest, at every index; then two of them.
-pub fn numbers(visit: &mut Visitor) {
+pub fn numbers(visit: &mut Visitor, form: Form) {
     let mut generator = Generator::new(402);
-    for setting in SHAPES.into_iter().chain([LARGEST]) {
+    for setting in shapes_and_largest(form) {
         let mut case = TicketCase {
             what: "one number replaced",
             setting,

@@ -1,29 +1,45 @@
 //! Random cases. Most are a ticket within the ranges, damaged in ways drawn at
 //! random, none, one or several.
 
-use apart::examples::K;
-use apart::Setting;
-
-use super::craft::{claims_case, falsify, fitting, list, set_value, sizes, sizes_up_to, true_parts, FIELDS, P};
+use super::craft::{claims_case, falsify, fields, fitting, k, list, set_value, sizes, sizes_up_to, true_parts, P};
 use crate::cases::{TicketCase, Visitor};
 use crate::generator::Generator;
+use crate::setting::{Form, Setting};
 
-pub fn small(visit: &mut Visitor) {
-    tickets(visit, 701, 400_000, [4, 4, 4, 3]);
+/// How many random cases there are: fewer of bias tickets, so that the whole
+/// comparison stays short.
+pub fn rounds(form: Form, plain: usize) -> usize {
+    match form {
+        Form::Plain => plain,
+        Form::Bias => plain / 2,
+    }
 }
 
-pub fn medium(visit: &mut Visitor) {
-    tickets(visit, 702, 20_000, [12, 12, 12, 8]);
+pub fn small(visit: &mut Visitor, form: Form) {
+    let sizes = |generator: &mut Generator| sizes_up_to(generator, [4, 4, 4, 3]);
+    tickets(visit, form, 701, rounds(form, 400_000), sizes);
 }
 
-pub fn large(visit: &mut Visitor) {
-    tickets(visit, 703, 500, [32, 64, 32, 8]);
+pub fn medium(visit: &mut Visitor, form: Form) {
+    let sizes = |generator: &mut Generator| sizes_up_to(generator, [12, 12, 12, 8]);
+    tickets(visit, form, 702, rounds(form, 20_000), sizes);
 }
 
-fn tickets(visit: &mut Visitor, seed: u64, count: usize, most: [u32; 4]) {
+pub fn large(visit: &mut Visitor, form: Form) {
+    let sizes = |generator: &mut Generator| sizes_up_to(generator, [32, 64, 32, 8]);
+    tickets(visit, form, 703, rounds(form, 500), sizes);
+}
+
+/// The largest sizes, always.
+pub fn largest(visit: &mut Visitor, form: Form) {
+    tickets(visit, form, 705, 40, |_| [32, 64, 32, 8]);
+}
+
+fn tickets(visit: &mut Visitor, form: Form, seed: u64, count: usize, sizes: fn(&mut Generator) -> [u32; 4]) {
     let mut generator = Generator::new(seed);
     for _ in 0..count {
-        let mut case = within_ranges(&mut generator, most);
+        let sizes = sizes(&mut generator);
+        let mut case = within_ranges(&mut generator, form, sizes);
         if !generator.once_in(3) {
             let damages = if generator.once_in(4) { 2 } else { 1 };
             for _ in 0..damages {
@@ -38,9 +54,8 @@ fn tickets(visit: &mut Visitor, seed: u64, count: usize, most: [u32; 4]) {
 
 /// A ticket within the ranges, one in two of them false in one place or several,
 /// with a list that is well formed and often has zeros.
-fn within_ranges(generator: &mut Generator, most: [u32; 4]) -> TicketCase {
-    let sizes_of_ticket = sizes_up_to(generator, most);
-    let setting = fitting(generator, sizes_of_ticket);
+fn within_ranges(generator: &mut Generator, form: Form, sizes_of_ticket: [u32; 4]) -> TicketCase {
+    let setting = fitting(generator, form, sizes_of_ticket);
     let [rows, _, columns, _] = sizes(&setting);
     let mut parts = true_parts(generator, &setting);
     if generator.once_in(2) {
@@ -103,7 +118,8 @@ fn one_value(generator: &mut Generator, case: &mut TicketCase) {
 fn value_near_a_limit(generator: &mut Generator, case: &mut TicketCase) {
     if let Some(record) = index(generator, case.ticket.len() / 8) {
         let half = 1 << (case.setting.width.clamp(1, 30) - 1);
-        let limits = [0, case.setting.bound, case.setting.scale, half, 2 * half, P];
+        let mut limits = vec![0, case.setting.bound, case.setting.scale, half, 2 * half, P];
+        limits.extend(case.setting.bias_bound);
         let limit = generator.choose(&limits);
         let limit = if generator.once_in(2) {
             P.wrapping_sub(limit)
@@ -163,12 +179,14 @@ fn one_list_number(generator: &mut Generator, case: &mut TicketCase) {
 }
 
 fn one_number_of_the_setting(generator: &mut Generator, case: &mut TicketCase) {
-    let field = &FIELDS[generator.below(FIELDS.len())];
+    let fields = fields(case.setting.form());
+    let field = &fields[generator.below(fields.len())];
     *(field.of)(&mut case.setting) = generator.word() >> generator.below(32);
 }
 
 fn one_number_of_the_setting_by_one(generator: &mut Generator, case: &mut TicketCase) {
-    let field = &FIELDS[generator.below(FIELDS.len())];
+    let fields = fields(case.setting.form());
+    let field = &fields[generator.below(fields.len())];
     let number = (field.of)(&mut case.setting);
     *number = match generator.below(2) {
         0 => number.wrapping_add(1),
@@ -177,18 +195,19 @@ fn one_number_of_the_setting_by_one(generator: &mut Generator, case: &mut Ticket
 }
 
 /// A setting of random numbers, mostly within the limits.
-pub fn random_setting(generator: &mut Generator) -> Setting {
-    let mut setting = K;
-    for field in &FIELDS {
+pub fn random_setting(generator: &mut Generator, form: Form) -> Setting {
+    let mut setting = k(form);
+    for field in fields(form) {
         let [least, greatest] = [field.least, field.greatest].map(i64::from);
         *(field.of)(&mut setting) = match generator.below(32) {
             0 => generator.word(),
             1 => generator.word() >> generator.below(32),
+            // 2^32 - 1 below 0.
             2 => generator.between(least - 1, least) as u32,
             3 => generator.between(greatest, greatest + 1) as u32,
             // Any number of bits, since small bounds fit more often.
             _ => {
-                let bits = generator.between(0, 16);
+                let bits = generator.between(0, i64::from(field.greatest.ilog2()).max(16));
                 generator.between(least, greatest.min(least + (1 << bits) - 1)) as u32
             }
         };
@@ -198,10 +217,10 @@ pub fn random_setting(generator: &mut Generator) -> Setting {
 
 /// Settings of random numbers with no byte or with zeros, so that the tests 1 to
 /// 5 decide.
-pub fn settings(visit: &mut Visitor) {
+pub fn settings(visit: &mut Visitor, form: Form) {
     let mut generator = Generator::new(704);
-    for round in 0..400_000 {
-        let setting = random_setting(&mut generator);
+    for round in 0..rounds(form, 400_000) {
+        let setting = random_setting(&mut generator, form);
         let length = if round % 2 == 0 { 0 } else { generator.below(257) };
         visit.checks(&TicketCase {
             what: "a random setting",

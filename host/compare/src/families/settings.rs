@@ -1,19 +1,19 @@
 //! Settings within, at and beyond their limits, and at the edge of fitting.
 
-use apart::examples::K;
-use apart::make::{ticket_length, Parts};
-use apart::{Answer, Setting};
+use apart::Answer;
 
-use super::craft::{fits, sizes, slack, zeros, Field, FIELDS, LARGEST, P, SHAPES};
+use super::craft::{fields, fits, k, shapes_and_largest, slack, zeros, Field, P};
 use super::writer::writer_case;
 use crate::cases::{accepted, accepted_in_full, refused, TicketCase, Visitor, WriterCase, Writing};
+use crate::parts::{ticket_length, Parts};
+use crate::setting::{Form, Setting};
 
 /// The values to try in a number of the setting.
 fn values(field: &Field) -> Vec<u32> {
     let mut values = vec![
         0,
         1,
-        field.least - 1,
+        field.least.wrapping_sub(1),
         field.least,
         field.least + 1,
         field.greatest - 1,
@@ -41,9 +41,10 @@ fn values(field: &Field) -> Vec<u32> {
     values
 }
 
-/// The refusal of a setting, by the limits and by fitting.
+/// The refusal of a setting, by the limits, of which the lowest number decides, and
+/// then by fitting.
 pub fn refusal(setting: &Setting) -> Option<Answer> {
-    let outside = FIELDS
+    let outside = fields(setting.form())
         .iter()
         .filter(|field| {
             let number = *(field.of)(&mut setting.clone());
@@ -77,25 +78,24 @@ fn visit_setting(visit: &mut Visitor, setting: Setting, longest: u128) {
         setting,
         a: Vec::new(),
         b: Vec::new(),
+        bias: Vec::new(),
         output: Vec::new(),
         expected: Some(Writing::Refusal(refusal.unwrap_or(refused(13, 0)))),
     });
     let numbers = u128::from(setting.vectors) * u128::from(setting.columns);
     if ticket_length(&setting) <= longest && numbers <= longest {
-        let ticket = zeros(&setting);
-        let [rows, inner, columns, _] = sizes(&setting);
-        visit.write(&WriterCase {
-            what: "operands of zeros and an output that match",
-            setting,
-            a: vec![0; rows * inner],
-            b: vec![0; inner * columns],
-            output: vec![0xC3; ticket.len()],
-            expected: Some(refusal.map_or_else(|| Writing::Ticket(ticket.clone()), Writing::Refusal)),
-        });
+        let parts = zeros(&setting);
+        let length = ticket_length(&setting) as usize;
+        let what = "operands of zeros and an output that match";
+        let mut written = writer_case(what, &setting, &parts, vec![0xC3; length]);
+        if let Some(refusal) = refusal {
+            written.expected = Some(Writing::Refusal(refusal));
+        }
+        visit.write(&written);
         let case = TicketCase {
             what: "a ticket of zeros and a list that match",
             setting,
-            ticket,
+            ticket: parts.ticket(&setting),
             list: vec![1; numbers as usize],
             expected: Some(refusal.unwrap_or_else(|| accepted(&setting))),
         };
@@ -106,9 +106,9 @@ fn visit_setting(visit: &mut Visitor, setting: Setting, longest: u128) {
 }
 
 /// Each number of the setting alone at every value.
-pub fn limits(visit: &mut Visitor) {
-    for base in SHAPES.into_iter().chain([LARGEST]) {
-        for field in &FIELDS {
+pub fn limits(visit: &mut Visitor, form: Form) {
+    for base in shapes_and_largest(form) {
+        for field in fields(form) {
             for value in values(field) {
                 let mut setting = base;
                 *(field.of)(&mut setting) = value;
@@ -118,14 +118,15 @@ pub fn limits(visit: &mut Visitor) {
     }
 }
 
-/// Two numbers of the setting at every pair of values, and then all seven at
+/// Two numbers of the setting at every pair of values, and then all of them at
 /// once.
-pub fn pairs_of_limits(visit: &mut Visitor) {
-    for (index, first) in FIELDS.iter().enumerate() {
-        for second in &FIELDS[index + 1..] {
+pub fn pairs_of_limits(visit: &mut Visitor, form: Form) {
+    let fields = fields(form);
+    for (index, first) in fields.iter().enumerate() {
+        for second in &fields[index + 1..] {
             for one in values(first) {
                 for two in values(second) {
-                    let mut setting = K;
+                    let mut setting = k(form);
                     *(first.of)(&mut setting) = one;
                     *(second.of)(&mut setting) = two;
                     visit_setting(visit, setting, 2_000);
@@ -133,9 +134,9 @@ pub fn pairs_of_limits(visit: &mut Visitor) {
             }
         }
     }
-    for value in FIELDS.iter().flat_map(values) {
-        let mut setting = K;
-        for field in &FIELDS {
+    for value in fields.iter().flat_map(values) {
+        let mut setting = k(form);
+        for field in fields {
             *(field.of)(&mut setting) = value;
         }
         visit_setting(visit, setting, 2_000);
@@ -145,37 +146,57 @@ pub fn pairs_of_limits(visit: &mut Visitor) {
 /// Scales on both sides of each condition of fitting. The tickets are true and
 /// have the greatest sums that there are, so that the quotients reach the end of
 /// their range where the first condition holds by nothing.
-pub fn edge_of_fitting(visit: &mut Visitor) {
+pub fn edge_of_fitting(visit: &mut Visitor, form: Form) {
+    let mut bias_bounds = bias_bounds(form).iter().copied().cycle();
     for inner in [1, 2, 3, 31, 32, 63, 64] {
         for bound in [
             1, 2, 3, 8, 9, 181, 182, 255, 256, 1023, 1024, 4095, 4096, 32_766, 32_767,
         ] {
             for width in 1..=30 {
-                for scale in scales_at_the_edge(inner, bound, width) {
-                    let setting = Setting {
-                        rows: 1,
-                        inner,
-                        columns: 1,
-                        vectors: 1,
-                        scale,
-                        bound,
-                        width,
-                    };
-                    visit_greatest_sums(visit, setting);
+                let setting = Setting {
+                    bias_bound: bias_bounds.next().expect("there is always a next one"),
+                    ..Setting::from([1, inner, 1, 1, 2, bound, width])
+                };
+                for scale in scales_at_the_edge(&setting) {
+                    visit_greatest_sums(visit, Setting { scale, ..setting });
                 }
             }
         }
     }
 }
 
-/// Within the limits: the scales around where m·T² + α - 1 ≤ 2^(v-1)·α begins to
-/// hold, those around where 2^v·α < p ends, and the limits themselves.
-fn scales_at_the_edge(inner: u32, bound: u32, width: u32) -> Vec<u32> {
-    let [m, t, p] = [inner, bound, P].map(i64::from);
-    // The first condition is m·T² - 1 ≤ (2^(v-1) - 1)·α; for v = 1 it does not
+/// Bounds of the bias that take turns with the settings, within the limits. The
+/// last that fits at all is 1073676289, with α = 32767, v = 16 and m = T = 1.
+pub fn bias_bounds(form: Form) -> &'static [Option<u32>] {
+    match form {
+        Form::Plain => &[None],
+        Form::Bias => &[
+            Some(0),
+            Some(1),
+            Some(1 << 24),
+            Some(1000),
+            Some(1 << 29),
+            Some(65_535),
+            Some(3 << 28),
+            Some(2),
+            Some(1_073_676_289),
+            Some(1_234_567),
+            Some(1_073_676_290),
+            Some((1 << 30) - 1),
+            Some(1 << 30),
+        ],
+    }
+}
+
+/// Within the limits: the scales around where m·T² + W + α - 1 ≤ 2^(v-1)·α begins
+/// to hold, those around where 2^v·α < p ends, and the limits themselves.
+fn scales_at_the_edge(setting: &Setting) -> Vec<u32> {
+    let [m, t, w, p] = [setting.inner, setting.bound, setting.greatest_bias(), P].map(i64::from);
+    let width = setting.width;
+    // The first condition is m·T² + W - 1 ≤ (2^(v-1) - 1)·α; for v = 1 it does not
     // depend on α.
     let factor = (1 << (width - 1)) - 1;
-    let first = if factor == 0 { 2 } else { (m * t * t - 1) / factor };
+    let first = if factor == 0 { 2 } else { (m * t * t + w - 1) / factor };
     let second = (p - 1) >> width;
     let mut scales: Vec<i64> = [first, second]
         .into_iter()
@@ -188,19 +209,21 @@ fn scales_at_the_edge(inner: u32, bound: u32, width: u32) -> Vec<u32> {
     scales.into_iter().map(|scale| scale as u32).collect()
 }
 
-fn visit_greatest_sums(visit: &mut Visitor, setting: Setting) {
+/// The three calls with the greatest sums under a setting of one row and one
+/// column.
+pub fn visit_greatest_sums(visit: &mut Visitor, setting: Setting) {
     let what = match slack(&setting) {
         0 => "the first condition holds by nothing",
         -1 => "the first condition fails by one",
         1 => "the first condition holds by one",
         _ => "near an edge of fitting",
     };
-    let bound = i64::from(setting.bound);
-    let refusal = (!fits(&setting)).then(|| refused(3, 0));
+    let [bound, bias_bound] = [setting.bound, setting.greatest_bias()].map(i64::from);
+    let refusal = refusal(&setting);
     for sign in [-1, 1] {
         let a = vec![bound; setting.inner as usize];
         let b = vec![sign * bound; setting.inner as usize];
-        let parts = Parts::true_ones(&setting, &a, &b);
+        let parts = Parts::true_ones(&setting, &a, &b, &[sign * bias_bound]);
         let case = TicketCase {
             what,
             setting,
@@ -222,22 +245,26 @@ fn visit_greatest_sums(visit: &mut Visitor, setting: Setting) {
 #[cfg(test)]
 mod tests {
     use super::*;
+    use crate::cases::Case;
 
     /// The family would be of no use without the cases that it is made for.
     #[test]
     fn the_edge_is_met_from_both_sides() {
-        let mut slacks = [0; 3];
-        let mut by_second = [0; 2];
-        edge_of_fitting(&mut Visitor(&mut |case| {
-            let slack = slack(&case.setting);
-            if (-1..=1).contains(&slack) {
-                slacks[(slack + 1) as usize] += 1;
-            }
-            if slack >= 0 {
-                by_second[usize::from(fits(&case.setting))] += 1;
-            }
-        }));
-        assert!(slacks.iter().all(|&count| count > 20), "{slacks:?}");
-        assert!(by_second.iter().all(|&count| count > 100), "{by_second:?}");
+        for form in [Form::Plain, Form::Bias] {
+            let mut slacks = [0; 3];
+            let mut by_second = [0; 2];
+            let mut visit = |case: &Case| {
+                let slack = slack(&case.setting);
+                if (-1..=1).contains(&slack) {
+                    slacks[(slack + 1) as usize] += 1;
+                }
+                if slack >= 0 {
+                    by_second[usize::from(fits(&case.setting))] += 1;
+                }
+            };
+            edge_of_fitting(&mut Visitor(&mut visit), form);
+            assert!(slacks.iter().all(|&count| count > 20), "{slacks:?}");
+            assert!(by_second.iter().all(|&count| count > 100), "{by_second:?}");
+        }
     }
 }

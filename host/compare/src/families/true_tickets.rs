@@ -1,11 +1,10 @@
 //! True tickets, which every well-formed list is accepted with, and which the
 //! full check accepts.
 
-use apart::Setting;
-
 use super::craft::{claims_case, fitting, full_by_sums, list, sizes, true_parts, LARGEST, P};
 use crate::cases::{accepted, accepted_in_full, TicketCase, Visitor};
 use crate::generator::Generator;
+use crate::setting::{Form, Setting};
 
 /// Lists of each kind: random, one number over and over, one number that is not
 /// 0 in each vector.
@@ -60,16 +59,16 @@ pub fn sizes_and_largest() -> impl Iterator<Item = [u32; 4]> {
         .chain(largest)
 }
 
-pub fn many_sizes(visit: &mut Visitor) {
+pub fn many_sizes(visit: &mut Visitor, form: Form) {
     let mut generator = Generator::new(101);
     for sizes in sizes_and_largest() {
-        let setting = fitting(&mut generator, sizes);
+        let setting = fitting(&mut generator, form, sizes);
         visit_true(visit, &mut generator, &setting);
     }
 }
 
 /// Every size up to 4 with every number of vectors.
-pub fn small_sizes(visit: &mut Visitor) {
+pub fn small_sizes(visit: &mut Visitor, form: Form) {
     let mut generator = Generator::new(102);
     for index in 0..4_u32.pow(3) * 8 {
         let sizes = [
@@ -78,7 +77,7 @@ pub fn small_sizes(visit: &mut Visitor) {
             index / 128 % 4 + 1,
             index % 8 + 1,
         ];
-        let setting = fitting(&mut generator, sizes);
+        let setting = fitting(&mut generator, form, sizes);
         let parts = true_parts(&mut generator, &setting);
         for list in lists(&mut generator, &setting) {
             visit.challenge(&claims_case("true", &setting, &parts, &list));

@@ -6,13 +6,13 @@ pub mod outputs;
 pub mod random;
 pub mod refusals;
 
-use apart::examples::{A, B, K};
-use apart::make::Parts;
-use apart::Setting;
+use apart::examples::{A, B, BIAS};
 
-use super::craft::{list, sizes};
+use super::craft::{k, list, sizes};
 use crate::cases::{accepted, accepted_in_full, TicketCase, Visitor, WriterCase, Writing};
 use crate::generator::Generator;
+use crate::parts::Parts;
+use crate::setting::{Form, Setting};
 
 /// The operands of these parts, which are of at most 32 bits, and an output that
 /// holds these bytes. The parts are those of a true ticket, which is written.
@@ -23,16 +23,19 @@ pub fn writer_case(what: &'static str, setting: &Setting, parts: &Parts, output:
         setting: *setting,
         a: operand(&parts.a),
         b: operand(&parts.b),
+        bias: operand(&parts.bias),
         output,
         expected: Some(Writing::Ticket(parts.ticket(setting))),
     }
 }
 
-/// The operands of case b, with an output longer than the ticket by `past` bytes.
-pub fn writer_case_b(past: usize) -> WriterCase {
-    let parts = Parts::true_ones(&K, &A, &B);
-    let output = Filling::Inverse.output(&parts.ticket(&K), past);
-    writer_case("case b", &K, &parts, output)
+/// The operands of case b, or the same with a bias, and an output longer than the
+/// ticket by `past` bytes.
+pub fn writer_case_b(form: Form, past: usize) -> WriterCase {
+    let setting = k(form);
+    let parts = Parts::true_ones(&setting, &A, &B, &BIAS);
+    let output = Filling::Inverse.output(&parts.ticket(&setting), past);
+    writer_case("case b", &setting, &parts, output)
 }
 
 /// What an output holds before a ticket is written into it.
@@ -77,7 +80,7 @@ const PATTERNS: [Pattern; 9] = [
     |_, _, bound| -bound,
     |_, _, _| 0,
     // All equal.
-    |_, _, _| 1,
+    |_, _, bound| bound.min(1),
     |_, _, bound| -(bound + 1) / 2,
     // Alternating.
     |row, column, bound| if (row + column) % 2 == 0 { bound } else { -bound },
@@ -88,16 +91,19 @@ const PATTERNS: [Pattern; 9] = [
     |row, column, bound| if column <= row { -bound } else { bound },
 ];
 
-/// The parts of the true ticket for operands of these patterns.
+/// The parts of the true ticket for operands of these patterns. The bias has that
+/// of B, so that the largest sums have the largest bias.
 fn of_patterns(setting: &Setting, in_a: Pattern, in_b: Pattern) -> Parts {
     let [rows, inner, columns, _] = sizes(setting);
-    let bound = i64::from(setting.bound);
-    let matrix = |rows: usize, columns: usize, pattern: Pattern| -> Vec<i64> {
+    let matrix = |rows: usize, columns: usize, bound: u32, pattern: Pattern| -> Vec<i64> {
         (0..rows * columns)
-            .map(|index| pattern(index / columns, index % columns, bound))
+            .map(|index| pattern(index / columns, index % columns, i64::from(bound)))
             .collect()
     };
-    Parts::true_ones(setting, &matrix(rows, inner, in_a), &matrix(inner, columns, in_b))
+    let a = matrix(rows, inner, setting.bound, in_a);
+    let b = matrix(inner, columns, setting.bound, in_b);
+    let bias = matrix(rows, columns, setting.greatest_bias(), in_b);
+    Parts::true_ones(setting, &a, &b, &bias)
 }
 
 /// Writes the true ticket of these parts, into an output of its length or a
@@ -137,21 +143,24 @@ fn visit_written_with_lists(
 
 #[cfg(test)]
 mod tests {
+    use apart::examples::{BIAS_TICKET, TICKET};
+
     use super::*;
 
     /// A writer that leaves a byte out would go unnoticed with an output that
     /// holds it already.
     #[test]
     fn no_byte_of_the_inverse_is_right() {
-        let case = writer_case_b(5);
-        let ticket = apart::true_ticket(&K, &A, &B);
-        assert_eq!(case.output.len(), ticket.len() + 5);
-        assert!(case.output.iter().zip(&ticket).all(|(before, after)| before != after));
+        for (form, ticket) in [(Form::Plain, TICKET.as_slice()), (Form::Bias, &BIAS_TICKET)] {
+            let case = writer_case_b(form, 5);
+            assert_eq!(case.output.len(), ticket.len() + 5);
+            assert!(case.output.iter().zip(ticket).all(|(before, after)| before != after));
+        }
     }
 
     #[test]
     fn every_pattern_is_within_the_bound() {
-        for bound in [1, 2, 8, 32_767] {
+        for bound in [0, 1, 2, 8, 32_767, 1 << 30] {
             for pattern in PATTERNS {
                 for place in 0..100 {
                     assert!(pattern(place / 10, place % 10, bound).abs() <= bound);

@@ -1,12 +1,12 @@
 //! Settings that just fit, with the operands that make the largest sums, and
 //! those that are one step beyond.
 
-use apart::Setting;
-
 use super::{of_patterns, visit_written, writer_case, PATTERNS};
 use crate::cases::{refused, Visitor, Writing};
 use crate::families::craft::{fits, true_parts};
+use crate::families::settings::bias_bounds;
 use crate::generator::Generator;
+use crate::setting::{Form, Setting};
 
 const INNER: [u32; 9] = [1, 2, 3, 7, 31, 32, 33, 63, 64];
 
@@ -82,14 +82,18 @@ fn visit_largest_bound(visit: &mut Visitor, generator: &mut Generator, setting: 
 }
 
 /// For many sizes, scales and widths the largest bound that fits, and the next.
-pub fn largest_bounds(visit: &mut Visitor) {
+pub fn largest_bounds(visit: &mut Visitor, form: Form) {
     let mut generator = Generator::new(811);
     let mut outer = OUTER.into_iter().cycle();
+    let mut bias_bounds = bias_bounds(form).iter().copied().cycle();
     for inner in INNER {
         for scale in SCALES {
             for width in 1..=30 {
                 let [rows, columns] = outer.next().expect("there is always a next one");
-                let setting = Setting::from([rows, inner, columns, 1, scale, 1, width]);
+                let setting = Setting {
+                    bias_bound: bias_bounds.next().expect("there is always a next one"),
+                    ..Setting::from([rows, inner, columns, 1, scale, 1, width])
+                };
                 visit_largest_bound(visit, &mut generator, &setting);
             }
         }
@@ -97,13 +101,17 @@ pub fn largest_bounds(visit: &mut Visitor) {
 }
 
 /// The same for large tickets, with fewer scales and widths.
-pub fn largest_bounds_of_large(visit: &mut Visitor) {
+pub fn largest_bounds_of_large(visit: &mut Visitor, form: Form) {
     let mut generator = Generator::new(813);
+    let mut bias_bounds = bias_bounds(form).iter().copied().cycle();
     for [rows, inner, columns] in [[32, 64, 32], [32, 1, 32], [1, 64, 32], [32, 64, 1], [31, 63, 30]] {
         for _ in 0..10 {
             let scale = generator.choose(&SCALES);
             let width = generator.between(7, 16) as u32;
-            let setting = Setting::from([rows, inner, columns, 8, scale, 1, width]);
+            let setting = Setting {
+                bias_bound: bias_bounds.next().expect("there is always a next one"),
+                ..Setting::from([rows, inner, columns, 8, scale, 1, width])
+            };
             visit_largest_bound(visit, &mut generator, &setting);
         }
     }
@@ -111,14 +119,19 @@ pub fn largest_bounds_of_large(visit: &mut Visitor) {
 
 /// For many inner sizes, bounds and scales the smallest and the largest width
 /// that fits, one less and one more.
-pub fn widths(visit: &mut Visitor) {
+pub fn widths(visit: &mut Visitor, form: Form) {
     let mut generator = Generator::new(812);
     let mut outer = OUTER.into_iter().cycle();
+    let mut bias_bounds = bias_bounds(form).iter().copied().cycle();
     for inner in INNER {
         for bound in BOUNDS {
             for scale in SCALES {
                 let [rows, columns] = outer.next().expect("there is always a next one");
-                let with = |width| Setting::from([rows, inner, columns, 1, scale, bound, width]);
+                let bias_bound = bias_bounds.next().expect("there is always a next one");
+                let with = |width| Setting {
+                    bias_bound,
+                    ..Setting::from([rows, inner, columns, 1, scale, bound, width])
+                };
                 let fitting: Vec<u32> = (1..=30).filter(|&width| fits(&with(width))).collect();
                 let (Some(&smallest), Some(&largest)) = (fitting.first(), fitting.last()) else {
                     visit_beyond(visit, "no width fits", &with(generator.between(1, 30) as u32), 3);
@@ -141,12 +154,14 @@ pub fn widths(visit: &mut Visitor) {
 #[cfg(test)]
 mod tests {
     use super::*;
-    use crate::cases::Kind;
+    use crate::cases::{Call, Case, Cases};
+    use crate::families::craft::{K, K_WITH_BIAS};
 
     #[test]
     fn the_largest_bound_fits_and_the_next_does_not() {
         // Under K, 2·8² + 9 = 137 is at most 160 and 2·9² + 9 = 171 is not.
-        assert_eq!(largest_bound(&apart::examples::K), 8);
+        assert_eq!(largest_bound(&K), 8);
+        assert_eq!(largest_bound(&K_WITH_BIAS), 8);
         // v = 2: 65536 + 65535 would be needed at 256².
         assert_eq!(largest_bound(&Setting::from([1, 1, 1, 1, 65_535, 1, 2])), 256);
         assert_eq!(largest_bound(&Setting::from([1, 1, 1, 1, 65_534, 1, 2])), 255);
@@ -157,16 +172,25 @@ mod tests {
     /// The families would be of no use without the cases that they are made for.
     #[test]
     fn both_sides_of_fitting_are_met() {
-        for family in [largest_bounds, widths] {
+        let families: [(Cases, Form); 4] = [
+            (largest_bounds, Form::Plain),
+            (widths, Form::Plain),
+            (largest_bounds, Form::Bias),
+            (widths, Form::Bias),
+        ];
+        for (family, form) in families {
             let mut numbers = [0; 4];
-            family(&mut Visitor(&mut |case| {
-                if case.kind() == Kind::Writer {
+            let mut visit = |case: &Case| {
+                if let Call::Writer { .. } = case.call {
                     let stated = case.expected.as_ref().expect("every case is stated");
                     numbers[stated.answer.number as usize] += 1;
                 }
-            }));
+            };
+            family(&mut Visitor(&mut visit), form);
             let [written, _, limits, fitting] = numbers;
-            assert!(written > 1000 && limits > 0 && fitting > 500, "{numbers:?}");
+            assert!(written > 1000 && fitting > 500, "{numbers:?}");
+            // With a bias the bound at its limit fits only where W is 0 or 1.
+            assert!(limits > 0 || form == Form::Bias, "{numbers:?}");
         }
     }
 }

@@ -3,9 +3,10 @@
 
 use super::{of_patterns, visit_written, visit_written_with_lists, PATTERNS};
 use crate::cases::Visitor;
-use crate::families::craft::{fitting, true_parts, SHAPES};
+use crate::families::craft::{fitting, shapes, true_parts};
 use crate::families::true_tickets::{lists, sizes_and_largest};
 use crate::generator::Generator;
+use crate::setting::Form;
 
 /// Every corner of the sizes.
 const CORNERS: [[u32; 3]; 8] = [
@@ -20,10 +21,10 @@ const CORNERS: [[u32; 3]; 8] = [
 ];
 
 /// Sizes at, next to and between the limits: random operands, and two patterns.
-pub fn many_sizes(visit: &mut Visitor) {
+pub fn many_sizes(visit: &mut Visitor, form: Form) {
     let mut generator = Generator::new(801);
     for sizes in sizes_and_largest() {
-        let setting = fitting(&mut generator, sizes);
+        let setting = fitting(&mut generator, form, sizes);
         let parts = true_parts(&mut generator, &setting);
         let lists = lists(&mut generator, &setting);
         visit_written_with_lists(visit, &mut generator, "random operands", &setting, &parts, lists);
@@ -34,13 +35,13 @@ pub fn many_sizes(visit: &mut Visitor) {
 }
 
 /// Every pair of patterns at every corner of the sizes.
-pub fn corners(visit: &mut Visitor) {
+pub fn corners(visit: &mut Visitor, form: Form) {
     let mut generator = Generator::new(802);
     for [rows, inner, columns] in CORNERS {
         for in_a in PATTERNS {
             for in_b in PATTERNS {
                 let vectors = generator.between(1, 2) as u32;
-                let setting = fitting(&mut generator, [rows, inner, columns, vectors]);
+                let setting = fitting(&mut generator, form, [rows, inner, columns, vectors]);
                 let parts = of_patterns(&setting, in_a, in_b);
                 visit_written(visit, &mut generator, "extreme operands", &setting, &parts);
             }
@@ -50,13 +51,13 @@ pub fn corners(visit: &mut Visitor) {
 
 /// Every size up to 4 and some shapes, with every pair of patterns and with
 /// random operands.
-pub fn small_sizes(visit: &mut Visitor) {
+pub fn small_sizes(visit: &mut Visitor, form: Form) {
     let mut generator = Generator::new(803);
-    let mut settings = SHAPES.to_vec();
+    let mut settings = shapes(form).to_vec();
     for index in 0..4_u32.pow(3) {
         let sizes = [index % 4 + 1, index / 4 % 4 + 1, index / 16 + 1, index % 8 + 1];
-        settings.push(fitting(&mut generator, sizes));
-        settings.push(fitting(&mut generator, sizes));
+        settings.push(fitting(&mut generator, form, sizes));
+        settings.push(fitting(&mut generator, form, sizes));
     }
     for setting in settings {
         for in_a in PATTERNS {

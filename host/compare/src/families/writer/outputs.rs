@@ -1,18 +1,17 @@
 //! Outputs that are too short, of the right length and longer, whatever they
 //! hold before.
 
-use apart::Setting;
-
 use super::{writer_case, Filling};
 use crate::cases::{refused, Visitor, Writing};
-use crate::families::craft::{true_parts, LARGEST, SHAPES};
+use crate::families::craft::{shapes_and_largest, true_parts, LARGEST};
 use crate::generator::Generator;
+use crate::setting::{Form, Setting};
 
 /// Every length up to some bytes past the right one, and much longer ones. For
 /// the largest setting only some of them.
-pub fn lengths(visit: &mut Visitor) {
+pub fn lengths(visit: &mut Visitor, form: Form) {
     let mut generator = Generator::new(821);
-    for setting in SHAPES.into_iter().chain([LARGEST]) {
+    for setting in shapes_and_largest(form) {
         let parts = true_parts(&mut generator, &setting);
         let ticket = parts.ticket(&setting);
         for length in lengths_to_try(&setting, ticket.len()) {
@@ -30,7 +29,7 @@ pub fn lengths(visit: &mut Visitor) {
 }
 
 fn lengths_to_try(setting: &Setting, right: usize) -> Vec<usize> {
-    let short: Vec<usize> = if *setting == LARGEST {
+    let short: Vec<usize> = if setting.rows == LARGEST.rows {
         let some = [0, 1, 7, 8, 9, 255, 256, 257, right / 2, right - 9, right - 8, right - 7];
         some.into_iter().chain([right - 2, right - 1]).collect()
     } else {

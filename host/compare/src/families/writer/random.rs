@@ -3,28 +3,29 @@
 
 use super::{visit_written, writer_case, Filling};
 use crate::cases::{Visitor, WriterCase, Writing};
-use crate::families::craft::{fitting, sizes_up_to, true_parts, FIELDS};
-use crate::families::random::random_setting;
+use crate::families::craft::{fields, fitting, sizes_up_to, true_parts};
+use crate::families::random::{random_setting, rounds};
 use crate::families::settings::refusal;
 use crate::generator::Generator;
+use crate::setting::Form;
 
-pub fn small(visit: &mut Visitor) {
-    operands(visit, 841, 60_000, [4, 4, 4, 3]);
+pub fn small(visit: &mut Visitor, form: Form) {
+    operands(visit, form, 841, 60_000, [4, 4, 4, 3]);
 }
 
-pub fn medium(visit: &mut Visitor) {
-    operands(visit, 842, 4_000, [12, 12, 12, 3]);
+pub fn medium(visit: &mut Visitor, form: Form) {
+    operands(visit, form, 842, 4_000, [12, 12, 12, 3]);
 }
 
-pub fn large(visit: &mut Visitor) {
-    operands(visit, 843, 100, [32, 64, 32, 2]);
+pub fn large(visit: &mut Visitor, form: Form) {
+    operands(visit, form, 843, 100, [32, 64, 32, 2]);
 }
 
-fn operands(visit: &mut Visitor, seed: u64, count: usize, most: [u32; 4]) {
+fn operands(visit: &mut Visitor, form: Form, seed: u64, count: usize, most: [u32; 4]) {
     let mut generator = Generator::new(seed);
-    for _ in 0..count {
+    for _ in 0..rounds(form, count) {
         let sizes = sizes_up_to(&mut generator, most);
-        let setting = fitting(&mut generator, sizes);
+        let setting = fitting(&mut generator, form, sizes);
         let parts = true_parts(&mut generator, &setting);
         if generator.once_in(3) {
             visit_written(visit, &mut generator, "random operands", &setting, &parts);
@@ -53,29 +54,42 @@ const DAMAGES: [Damage; 6] = [
     one_number_of_the_setting,
 ];
 
-/// One number of A or B, if there is any.
-fn some_number<'a>(generator: &mut Generator, case: &'a mut WriterCase) -> Option<&'a mut i32> {
-    let operand = if generator.once_in(2) { &mut case.a } else { &mut case.b };
+/// A, B or the bias, and the bound of its numbers.
+fn some_operand<'a>(generator: &mut Generator, case: &'a mut WriterCase) -> (&'a mut Vec<i32>, u32) {
+    let count = match case.setting.form() {
+        Form::Plain => 2,
+        Form::Bias => 3,
+    };
+    match generator.below(count) {
+        0 => (&mut case.a, case.setting.bound),
+        1 => (&mut case.b, case.setting.bound),
+        _ => (&mut case.bias, case.setting.greatest_bias()),
+    }
+}
+
+/// One number of A, B or the bias, if there is any, and its bound.
+fn some_number<'a>(generator: &mut Generator, case: &'a mut WriterCase) -> Option<(&'a mut i32, u32)> {
+    let (operand, bound) = some_operand(generator, case);
     let count = operand.len();
-    (count > 0).then(|| &mut operand[generator.below(count)])
+    (count > 0).then(|| (&mut operand[generator.below(count)], bound))
 }
 
 fn one_number(generator: &mut Generator, case: &mut WriterCase) {
-    if let Some(number) = some_number(generator, case) {
+    if let Some((number, _)) = some_number(generator, case) {
         *number = generator.word() as i32 >> generator.below(32);
     }
 }
 
 fn one_number_at_the_bound(generator: &mut Generator, case: &mut WriterCase) {
-    let bound = i64::from(case.setting.bound);
-    if let Some(number) = some_number(generator, case) {
+    if let Some((number, bound)) = some_number(generator, case) {
+        let bound = i64::from(bound);
         let near = generator.between(bound - 1, bound + 2);
         *number = if generator.once_in(2) { near } else { -near } as i32;
     }
 }
 
 fn length_of_an_operand(generator: &mut Generator, case: &mut WriterCase) {
-    let operand = if generator.once_in(2) { &mut case.a } else { &mut case.b };
+    let (operand, _) = some_operand(generator, case);
     let length = operand.len();
     let other = match generator.below(3) {
         0 => generator.below(length + 1),
@@ -85,8 +99,12 @@ fn length_of_an_operand(generator: &mut Generator, case: &mut WriterCase) {
     operand.resize(other, 0);
 }
 
-fn operands_change_places(_: &mut Generator, case: &mut WriterCase) {
-    std::mem::swap(&mut case.a, &mut case.b);
+fn operands_change_places(generator: &mut Generator, case: &mut WriterCase) {
+    if case.setting.form() == Form::Bias && generator.once_in(2) {
+        std::mem::swap(&mut case.b, &mut case.bias);
+    } else {
+        std::mem::swap(&mut case.a, &mut case.b);
+    }
 }
 
 fn length_of_the_output(generator: &mut Generator, case: &mut WriterCase) {
@@ -95,7 +113,8 @@ fn length_of_the_output(generator: &mut Generator, case: &mut WriterCase) {
 }
 
 fn one_number_of_the_setting(generator: &mut Generator, case: &mut WriterCase) {
-    let field = &FIELDS[generator.below(FIELDS.len())];
+    let fields = fields(case.setting.form());
+    let field = &fields[generator.below(fields.len())];
     let number = (field.of)(&mut case.setting);
     *number = match generator.below(3) {
         0 => generator.word() >> generator.below(32),
@@ -106,10 +125,10 @@ fn one_number_of_the_setting(generator: &mut Generator, case: &mut WriterCase) {
 
 /// Settings of random numbers, with operands and an output that match where they
 /// are refused by nothing else and are not long, and with none otherwise.
-pub fn settings(visit: &mut Visitor) {
+pub fn settings(visit: &mut Visitor, form: Form) {
     let mut generator = Generator::new(844);
-    for _ in 0..200_000 {
-        let setting = random_setting(&mut generator);
+    for _ in 0..rounds(form, 200_000) {
+        let setting = random_setting(&mut generator, form);
         let refusal = refusal(&setting);
         let small = [setting.rows, setting.inner, setting.columns]
             .iter()
@@ -124,6 +143,7 @@ pub fn settings(visit: &mut Visitor) {
                 setting,
                 a: vec![1; generator.below(10)],
                 b: vec![1; generator.below(10)],
+                bias: Vec::new(),
                 output: vec![0xC3; generator.below(100)],
                 expected: refusal.map(Writing::Refusal),
             }
