@@ -80,11 +80,28 @@ mod tests {
     }
 
     #[test]
+    fn numbers_mean_something_else_with_a_bias() {
+        for (call, number, with_bias) in [
+            ("challenge check", 3, "m·T² + W + α - 1 ≤ 2^(v-1)·α"),
+            ("full check", 4, "8(ℓm + mn + 3ℓn)"),
+            ("writer", 13, "that of the bias is not ℓn"),
+            ("full check", 16, "α·q + r is not S + c"),
+        ] {
+            let words = |call: &str| meaning(call, answer([number, 0, 0, 0])).expect("words");
+            assert!(!words(call).contains(with_bias));
+            assert!(words(&format!("bias {call}")).contains(with_bias));
+        }
+    }
+
+    #[test]
     fn a_number_that_a_call_does_not_give_has_no_words() {
         for (call, number) in [
             ("full check", 10),
             ("challenge check", 16),
             ("writer", 4),
+            ("challenge check", 17),
+            ("full check", 18),
+            ("bias writer", 4),
             ("check", 0),
             ("full check", 1000),
         ] {
@@ -96,8 +113,10 @@ mod tests {
     fn every_row_has_words_of_its_calls() {
         for row in lines().skip(1) {
             let number = row[0].parse().expect("a number");
-            let calls = row[1].replace("all calls", "challenge check, full check, writer");
-            for call in calls.split(", ") {
+            let all = TABLE
+                .lines()
+                .filter_map(|line| line.strip_prefix("call|")?.split('|').next());
+            for call in all.filter(|call| gives(row[1], call)) {
                 let words = meaning(call, answer([number, 1, 2, 3])).expect("words");
                 assert!(!["PLACE", "ROW", "PRODUCTS", "|"]
                     .iter()

@@ -1,43 +1,51 @@
 //! The whole text: the setting, the ticket, the list, then the answers.
 
-use dikdumar::{challenge_check, full_check, Answer, Setting};
+use dikdumar::{Answer, Setting};
 
 use crate::files::{Contents, Files, READ_AT_MOST};
 use crate::layout::{self, Layout, RECORD};
 use crate::table::Table;
+use crate::terms::Terms;
 use crate::ticket::{self, Ticket};
 use crate::words::{count, hex};
 use crate::{answers, inputs, list};
 
-pub const NO_SETTING: &str = "No check is made without a setting. The program's answer is 1 0 0 0.\n";
-
 pub const WHOSE_ANSWERS: &str = "The answers are the library's. All else shows what the files hold and decides \
                                  nothing: \"differs\" is a plain comparison.\n";
 
-/// Shows the files of a folder.
-pub fn report(files: &Files) -> String {
+/// What stands in place of the answers, where there is no setting.
+pub fn no_answers(bias_bound: Option<u32>) -> &'static str {
+    match bias_bound {
+        None => "No check is made without a setting. The program's answer is 1 0 0 0.\n",
+        Some(_) => "No check is made without a setting.\n",
+    }
+}
+
+/// Shows the files of a folder, as those of a bias ticket where there is a W.
+pub fn report(files: &Files, bias_bound: Option<u32>) -> String {
     let ticket = bytes(&files.ticket);
     let Some(setting) = inputs::setting(bytes(&files.setting)) else {
         let sections = [
             no_setting_text(&files.setting),
             ticket_heading(&files.ticket) + &ticket::bare(ticket),
             list_text(&files.challenge, None, None),
-            NO_SETTING.to_string(),
+            no_answers(bias_bound).to_string(),
         ];
         return sections.join("\n");
     };
-    let layout = Layout::new(setting);
-    let full = full_check(setting, ticket);
+    let terms = Terms { setting, bias_bound };
+    let layout = Layout::new(terms);
+    let full = terms.full_check(ticket);
     // A file that is no whole count of numbers is handed over as an empty list: its length is wrong in every setting.
     let challenge = files.challenge.as_ref().map(|file| {
         let list = inputs::list(&file.bytes).unwrap_or_default();
-        challenge_check(setting, ticket, &list)
+        terms.challenge_check(ticket, &list)
     });
     let sections = [
-        setting_text(&files.setting, setting),
+        setting_text(&files.setting, terms),
         ticket_text(&files.ticket, setting, &layout, full),
         list_text(&files.challenge, Some(setting), challenge),
-        answers::text(setting, &layout, ticket, full, challenge),
+        answers::text(terms, &layout, ticket, full, challenge),
         WHOSE_ANSWERS.to_string(),
     ];
     sections.join("\n")
@@ -68,9 +76,10 @@ fn no_setting_text(file: &Option<Contents>) -> String {
     text + &format!("  a setting has {} bytes\n", inputs::SETTING)
 }
 
-fn setting_text(file: &Option<Contents>, setting: Setting) -> String {
+fn setting_text(file: &Option<Contents>, Terms { setting, bias_bound }: Terms) -> String {
     let mut table = Table::default();
-    for (name, letter, number, limits) in [
+    let bias = bias_bound.map(|bound| ("bias", "W", bound, "0 to 1073741824, by --bias"));
+    let numbers = [
         ("rows", "ℓ", setting.rows, "1 to 32"),
         ("inner", "m", setting.inner, "1 to 64"),
         ("columns", "n", setting.columns, "1 to 32"),
@@ -78,9 +87,10 @@ fn setting_text(file: &Option<Contents>, setting: Setting) -> String {
         ("scale", "α", setting.scale, "2 to 65536"),
         ("bound", "T", setting.bound, "1 to 32767"),
         ("width", "v", setting.width, "1 to 30"),
-    ] {
+    ];
+    for (name, letter, number, limits) in numbers.into_iter().chain(bias) {
         // Words are padded here, so that they stand to the left.
-        let (name, limits) = (format!("{name:<7}"), format!("of {limits:<10}"));
+        let (name, limits) = (format!("{name:<7}"), format!("of {limits:<26}"));
         table.line([name, letter.to_string(), number.to_string(), limits]);
     }
     heading("setting.rec", file) + &table.text()

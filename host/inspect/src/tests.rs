@@ -5,22 +5,49 @@ mod known;
 
 use std::path::{Path, PathBuf};
 
-use dikdumar::{write_ticket, Setting};
+use dikdumar::{write_bias_ticket, write_ticket, BiasSetting, Setting};
 
 use crate::files::{Contents, Files, READ_AT_MOST};
 use crate::report::report;
+use crate::terms::Terms;
 
 /// ℓ = m = n = 2, s = 1, α = 10, T = 8, v = 5.
-const K: [u32; 7] = [2, 2, 2, 1, 10, 8, 5];
-
-/// The true ticket for A = (3, -2), (5, 4) and B = (-1, 6), (7, -8) under K.
-fn true_ticket() -> Vec<u8> {
-    written(K, &[3, -2, 5, 4], &[-1, 6, 7, -8])
+fn k() -> Terms {
+    plain([2, 2, 2, 1, 10, 8, 5])
 }
 
-fn written(setting: [u32; 7], a: &[i32], b: &[i32]) -> Vec<u8> {
+/// K with W = 23, the most that fits.
+fn k_with_bias() -> Terms {
+    with_bias(23, k())
+}
+
+fn plain(setting: [u32; 7]) -> Terms {
+    let setting = Setting::from(setting);
+    Terms {
+        setting,
+        bias_bound: None,
+    }
+}
+
+fn with_bias(bound: u32, terms: Terms) -> Terms {
+    let bias_bound = Some(bound);
+    Terms { bias_bound, ..terms }
+}
+
+/// The true ticket for A = (3, -2), (5, 4), B = (-1, 6), (7, -8) and, where there
+/// is a bias, (-4, 23), (-23, 5), under K.
+fn true_ticket(terms: Terms) -> Vec<u8> {
+    written(terms, [&[3, -2, 5, 4], &[-1, 6, 7, -8], &[-4, 23, -23, 5]])
+}
+
+/// The true ticket for A, B and the bias, which a plain one does not have.
+fn written(terms: Terms, [a, b, bias]: [&[i32]; 3]) -> Vec<u8> {
     let mut ticket = vec![0; READ_AT_MOST];
-    let answer = write_ticket(Setting::from(setting), a, b, &mut ticket);
+    let Terms { setting, bias_bound } = terms;
+    let answer = match bias_bound {
+        None => write_ticket(setting, a, b, &mut ticket),
+        Some(bias_bound) => write_bias_ticket(BiasSetting { setting, bias_bound }, a, b, bias, &mut ticket),
+    };
     assert_eq!(answer.number, 0);
     ticket.truncate(answer.place as usize);
     ticket
@@ -30,9 +57,9 @@ fn set_value(ticket: &mut [u8], record: usize, value: u32) {
     ticket[8 * record + 4..8 * record + 8].copy_from_slice(&value.to_le_bytes());
 }
 
-fn setting_bytes([rows, inner, columns, vectors, scale, bound, width]: [u32; 7]) -> Vec<u8> {
-    let sizes = [rows, inner, columns, vectors].map(|size| size as u8);
-    [&sizes[..], &list_bytes(&[scale, bound, width])].concat()
+fn setting_bytes(setting: Setting) -> Vec<u8> {
+    let sizes = [setting.rows, setting.inner, setting.columns, setting.vectors].map(|size| size as u8);
+    [&sizes[..], &list_bytes(&[setting.scale, setting.bound, setting.width])].concat()
 }
 
 fn list_bytes(list: &[u32]) -> Vec<u8> {
@@ -47,18 +74,20 @@ fn contents(bytes: &[u8]) -> Option<Contents> {
     })
 }
 
-/// The text for three files.
-fn shown(setting: &[u8], ticket: &[u8], list: &[u8]) -> String {
+/// The text for three files, and W where the ticket is to have a bias.
+fn shown(setting: &[u8], ticket: &[u8], list: &[u8], bias_bound: Option<u32>) -> String {
     let [setting, ticket, challenge] = [setting, ticket, list].map(contents);
-    report(&Files {
+    let files = Files {
         setting,
         ticket,
         challenge,
-    })
+    };
+    report(&files, bias_bound)
 }
 
-fn shown_under(setting: [u32; 7], ticket: &[u8], list: &[u32]) -> String {
-    shown(&setting_bytes(setting), ticket, &list_bytes(list))
+fn shown_under(terms: Terms, ticket: &[u8], list: &[u32]) -> String {
+    let setting = setting_bytes(terms.setting);
+    shown(&setting, ticket, &list_bytes(list), terms.bias_bound)
 }
 
 /// The four numbers that a text gives for a check.
@@ -79,8 +108,10 @@ fn table<'a>(text: &'a str, heading: &str) -> Vec<&'a str> {
     below.skip(2).take_while(|line| !line.is_empty()).collect()
 }
 
-fn examples() -> PathBuf {
-    Path::new(env!("CARGO_MANIFEST_DIR")).join("../../examples/tickets")
+fn examples(folder: &str) -> PathBuf {
+    Path::new(env!("CARGO_MANIFEST_DIR"))
+        .join("../../examples")
+        .join(folder)
 }
 
 /// Pseudo-random numbers (SplitMix64).
@@ -107,5 +138,20 @@ impl Random {
         (0..count)
             .map(|_| self.below(2 * bound as usize + 1) as i32 - bound as i32)
             .collect()
+    }
+
+    /// A, B and the bias, within T and W.
+    fn operands(&mut self, Terms { setting, bias_bound }: Terms) -> [Vec<i32>; 3] {
+        let [rows, inner, columns] = [setting.rows, setting.inner, setting.columns];
+        [
+            self.entries(rows * inner, setting.bound),
+            self.entries(inner * columns, setting.bound),
+            self.entries(rows * columns, bias_bound.unwrap_or_default()),
+        ]
+    }
+
+    /// A true ticket.
+    fn ticket(&mut self, terms: Terms) -> Vec<u8> {
+        written(terms, self.operands(terms).each_ref().map(Vec::as_slice))
     }
 }

@@ -18,7 +18,7 @@ pub struct Ticket<'a> {
 }
 
 impl Ticket<'_> {
-    /// The four matrices, then the claims.
+    /// The matrices, then the claims.
     pub fn text(&self) -> String {
         let mut text = String::new();
         for part in self.layout.parts() {
@@ -32,7 +32,12 @@ impl Ticket<'_> {
             text += &format!("\n{name}: {rows} by {columns}, from record {first}\n");
             text += &self.matrix(part);
         }
-        text += "\nclaims: α·q + r beside S, the exact sum of A(row, k)·B(k, column) over all k\n";
+        text += match self.layout.bias {
+            None => "\nclaims: α·q + r beside S, the exact sum of A(row, k)·B(k, column) over all k\n",
+            Some(_) => {
+                "\nclaims: α·q + r beside S + c; S is the exact sum of A(row, k)·B(k, column) over all k, c the bias\n"
+            }
+        };
         text += &self.claims();
         if !self.marked.is_empty() {
             text += "\n*: a record that the full check's answer names\n";
@@ -56,23 +61,36 @@ impl Ticket<'_> {
 
     fn claims(&self) -> String {
         let Layout {
-            quotients, remainders, ..
+            bias,
+            quotients,
+            remainders,
+            ..
         } = *self.layout;
-        let mut table = Table::new(["row", "column", "quotient ", "remainder ", "α·q + r", "S"]);
+        let mut headings = vec!["row", "column", "quotient ", "remainder ", "α·q + r", "S"];
+        if bias.is_some() {
+            headings.extend(["c ", "S + c"]);
+        }
+        let mut table = Table::new(headings);
+        let shown = |number: Option<i128>| number.map_or("-".to_string(), |number| number.to_string());
         for row in 0..quotients.rows {
             for column in 0..quotients.columns {
                 let claimed = self.claimed(row, column);
-                let sum = self.exact_sum(row, column);
-                let differs = claimed.is_some() && sum.is_some() && claimed != sum;
-                table.line([
+                let due = self.due(row, column);
+                let mut line = vec![
                     row.to_string(),
                     column.to_string(),
                     self.cell(quotients, row, column),
                     self.cell(remainders, row, column),
-                    claimed.map_or("-".to_string(), |claimed| claimed.to_string()),
-                    sum.map_or("-".to_string(), |sum| sum.to_string()),
-                    if differs { "differs" } else { "" }.to_string(),
-                ]);
+                    shown(claimed),
+                    shown(self.exact_sum(row, column)),
+                ];
+                if let Some(bias) = bias {
+                    line.extend([self.cell(bias, row, column), shown(due)]);
+                }
+                if claimed.is_some() && due.is_some() && claimed != due {
+                    line.push("differs".to_string());
+                }
+                table.line(line);
             }
         }
         table.text()
@@ -87,18 +105,28 @@ impl Ticket<'_> {
 
     /// α·q + r, where both are residues.
     fn claimed(&self, row: usize, column: usize) -> Option<i128> {
-        let quotient = words::signed(self.value(self.layout.quotients, row, column))?;
+        let quotient = self.entry(self.layout.quotients, row, column)?;
         let remainder = self.value(self.layout.remainders, row, column);
         words::signed(remainder)?;
-        Some(i128::from(self.setting.scale) * i128::from(quotient) + i128::from(remainder))
+        Some(i128::from(self.setting.scale) * quotient + i128::from(remainder))
+    }
+
+    /// What a claim is compared with: S, or S + c where there is a bias.
+    fn due(&self, row: usize, column: usize) -> Option<i128> {
+        let bias = self.layout.bias.map_or(Some(0), |bias| self.entry(bias, row, column));
+        Some(self.exact_sum(row, column)? + bias?)
     }
 
     /// S, where all of its factors are residues.
     fn exact_sum(&self, row: usize, column: usize) -> Option<i128> {
         let Layout { a, b, .. } = *self.layout;
-        let factor = |part, row, column| words::signed(self.value(part, row, column)).map(i128::from);
-        let product = |k| Some(factor(a, row, k)? * factor(b, k, column)?);
+        let product = |k| Some(self.entry(a, row, k)? * self.entry(b, k, column)?);
         (0..a.columns).map(product).sum()
+    }
+
+    /// The signed entry at a row and column, where the value is a residue.
+    fn entry(&self, part: Part, row: usize, column: usize) -> Option<i128> {
+        words::signed(self.value(part, row, column)).map(i128::from)
     }
 
     fn value(&self, part: Part, row: usize, column: usize) -> u32 {
@@ -126,8 +154,10 @@ pub fn bare(ticket: &[u8]) -> String {
 pub fn kinds(ticket: &[u8], layout: &Layout) -> String {
     let (records, _) = layout::records(ticket);
     let of_kind = |part: Part| records.iter().filter(|record| record[0] == part.kind).count();
-    let parts = layout.parts();
-    let others = records.len() - parts.map(of_kind).iter().sum::<usize>();
-    let counts = parts.map(|part| format!("{} {}", part.name, of_kind(part)));
+    let others = records.len() - layout.parts().map(of_kind).sum::<usize>();
+    let counts: Vec<String> = layout
+        .parts()
+        .map(|part| format!("{} {}", part.name, of_kind(part)))
+        .collect();
     format!("  records by kind: {}, other {others}\n", counts.join(", "))
 }

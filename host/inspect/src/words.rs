@@ -1,22 +1,25 @@
 //! Answers, values and bytes in words.
 
-use dikdumar::{residue, Answer, Setting};
+use dikdumar::{residue, Answer};
 
 use crate::meanings;
+use crate::terms::Terms;
 
-/// What an answer of a check means: the table's words, and what they leave open.
-pub fn meaning(check: &str, answer: Answer, setting: Setting) -> String {
-    match meanings::meaning(check, answer) {
-        Some(meaning) => meaning + &here(answer, setting),
+/// What an answer of a call means: the table's words, and what they leave open.
+pub fn meaning(call: &str, answer: Answer, terms: Terms) -> String {
+    match meanings::meaning(call, answer) {
+        Some(meaning) => meaning + &here(answer, terms),
         None => "a number that docs/answers.txt does not have".to_string(),
     }
 }
 
-/// What is allowed under this setting, or where the claim stands.
-fn here(answer: Answer, setting: Setting) -> String {
+/// What is allowed under these terms, or where the claim stands.
+fn here(answer: Answer, Terms { setting, bias_bound }: Terms) -> String {
+    let within = |bound| format!("; allowed: -{bound} to {bound}");
     let half = 1_u64 << setting.width.saturating_sub(1).min(62);
     match answer.number {
-        7 => format!("; allowed: -{0} to {0}", setting.bound),
+        7 => within(setting.bound),
+        18 => bias_bound.map(within).unwrap_or_default(),
         8 => format!("; allowed: -{half} to {}", half - 1),
         9 => format!("; allowed: 0 to {}", setting.scale.saturating_sub(1)),
         16 => {
