@@ -5,6 +5,7 @@ ghost use lib.ListN.{length};
 ghost use Rattle.algebra.specs.Laws.Fills.{lineAt};
 ghost use Rattle.ticket.specs.Laws.Runs.{step-answer, steps-answer};
 ghost use Rattle.challenge.specs.Rules.{verdict};
+ghost use Rattle.challenge.specs.Laws.Products.{rowsTimes, RecordsReady};
 ghost use Rattle.challenge.specs.Laws.Rows.{rowAnswer, rowSteps, VectorRowsReady, SidesReady};
 ghost use Rattle.challenge.specs.Laws.Sides.{DecodedTo, RoomFor};
 ghost use Rattle.challenge.specs.Laws.Vectors.{vectorSteps, DecodeReady, ListReady, VectorReady};
@@ -158,14 +159,14 @@ fn check_rows(
     };
     let mut row: u32 = 0;
     while row < setting.rows {
-        let added = dot_records(bias, (row as usize) * width, z);
+        let added = row_bias(bias, row, z);
         answer = check_row(
             line(a, u.len(), row),
             line(w, x.len(), row),
             x,
             u,
             left,
-            right + (added.0 as u64),
+            right + added,
             t,
             row,
             answer.products + (width as u32),
@@ -212,6 +213,18 @@ fn check_row(
         row: 0,
         products: made,
     }
+}
+
+// Row number k of the bias times a vector, modulo p; 0 where there is no bias.
+fn row_bias(bias: &[u8], k: u32, vector: &[u64]) -> u64
+    requires { ⌜ RecordsReady (now bias) (k * length (now vector)) (now vector) ⌝ }
+    ensures { λ r. ⌜ r ≡ rowsTimes (now (bias .entry)) (now (vector .entry)) k ⌝ }
+{
+    if vector.len() == 0 {
+        return 0;
+    }
+    let start = (k as usize) * vector.len();
+    dot_records(bias, start, vector).0 as u64
 }
 
 // Line number k of a list, which stands line after line, each of the given size.

@@ -13,6 +13,7 @@
 --   within l h n         n is from l to h
 --   mostRows, mostInner, mostColumns, mostVectors, mostScale, mostBound, mostWidth, mostBiasBound   the limits
 --   numbered P b W, plain P, withBias P W   the setting of the public numbers P, without a bias, and with one of bound W
+--   hasBias G            the setting has a bias
 --   biasBound G          the bound W of the bias, 0 where there is none
 --   biasColumns G        the columns of the bias: as many as those of the claims, 0 where there is none
 --   reach G              the largest size of what a claim is compared with
@@ -56,7 +57,7 @@
 --   FalseIn G t j        the ticket is false in column j: some row's claim there is untrue
 use Prim.Native.Nat.{ℕ, zero, suc, _+_, _-_, _*_, _/_, _%_, _^_, _<_}
 use mathlib.Core.Path.{_≡_}
-use mathlib.Core.Bool.{Bool, true, false, cond, _&&_}
+use mathlib.Core.Bool.{Bool, false, cond, _&&_}
 use mathlib.Core.List.{List, [], _∷_}
 use lib.Dec.{leb, ltb, eqb}
 use lib.ListN.{length, getD, take}
@@ -132,7 +133,7 @@ mostWidth = 30
 abbrev pub mostBiasBound : ℕ
 mostBiasBound = 2 ^ 30
 
-abbrev pub numbered : PlainSetting → Bool → ℕ → Setting
+abbrev pub numbered : PlainSetting → ℕ → ℕ → Setting
 numbered P biased W =
     record {
       rows = P .rows;
@@ -147,16 +148,19 @@ numbered P biased W =
     }
 
 abbrev pub plain : PlainSetting → Setting
-plain P = numbered P false 0
+plain P = numbered P 0 0
 
 abbrev pub withBias : PlainSetting → ℕ → Setting
-withBias P W = numbered P true W
+withBias P W = numbered P 1 W
+
+unfoldable pub hasBias : Setting → Bool
+hasBias G = ltb 0 (G .biased)
 
 unfoldable pub biasBound : Setting → ℕ
-biasBound G = cond (G .biased) (G .bias) 0
+biasBound G = cond (hasBias G) (G .bias) 0
 
 unfoldable pub biasColumns : Setting → ℕ
-biasColumns G = cond (G .biased) (G .columns) 0
+biasColumns G = cond (hasBias G) (G .columns) 0
 
 abbrev pub reach : Setting → ℕ
 reach G = G .inner * (G .bound * G .bound) + biasBound G
@@ -320,7 +324,7 @@ unfoldable pub entryB : Setting → List ℕ → ℕ → ℕ → ℤ
 entryB G t k j = signedEntry modulus (valueIn G t ofB k j)
 
 unfoldable pub entryBias : Setting → List ℕ → ℕ → ℕ → ℤ
-entryBias G t i j = cond (G .biased) (signedEntry modulus (valueIn G t ofBias i j)) (pos 0)
+entryBias G t i j = cond (hasBias G) (signedEntry modulus (valueIn G t ofBias i j)) (pos 0)
 
 unfoldable pub quotient : Setting → List ℕ → ℕ → ℕ → ℤ
 quotient G t i j = pos (shiftedQuotient (G .width) (valueIn G t ofQuotients i j)) -ℤ pos (halfRange G)

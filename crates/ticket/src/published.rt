@@ -32,10 +32,10 @@ impl PlainSetting {
     pub fn plain(self) -> Setting
         ensures { λ r. ⌜ r ≡ plain self ⌝ }
     {
-        self.numbered(false, 0)
+        self.numbered(0, 0)
     }
 
-    pub(crate) fn numbered(self, biased: bool, bias: u32) -> Setting
+    pub(crate) fn numbered(self, biased: u32, bias: u32) -> Setting
         ensures { λ r. ⌜ r ≡ numbered self biased bias ⌝ }
     {
         Setting {
@@ -57,6 +57,6 @@ impl BiasSetting {
     pub fn biased(self) -> Setting
         ensures { λ r. ⌜ r ≡ withBias (self .setting) (self .bias) ⌝ }
     {
-        self.setting.numbered(true, self.bias)
+        self.setting.numbered(1, self.bias)
     }
 }

@@ -8,12 +8,11 @@ ghost use Rattle.ticket.specs.Laws.Limits.{Within};
 ghost use Rattle.ticket.specs.Laws.All.{all};
 ghost use Rattle.ticket.specs.Laws.Forms.{entriesForm, partAnswer, testedAt, Holds, Ranged};
 ghost use Rattle.ticket.specs.Laws.Passing.{passing, passingAt, rowPassing};
-ghost use Rattle.ticket.specs.Laws.Parts.{MakesTests, ReadReady, partRead};
+ghost use Rattle.ticket.specs.Laws.Parts.{MakesTests, PartReady, ReadReady, formBytes};
 use crate::Answer;
 use crate::PartNumber;
 use crate::Setting;
 use crate::parts::RECORD;
-use crate::parts::part;
 use crate::parts::value_at;
 use crate::parts::word;
 use crate::setting::unless;
@@ -57,36 +56,42 @@ pub fn read(setting: Setting, ticket: &[u8]) -> Answer
     read_records(setting, ticket)
 }
 
-// The answer of the tests of the records, where setting and length pass theirs: that of the first part that does not pass.
+// The answer of the tests of the records, where setting and length pass theirs: that of the first part that does not pass. A part
+// starts where the one before it ends.
 fn read_records(setting: Setting, ticket: &[u8]) -> Answer
     requires { ⌜ ReadReady setting (now ticket) ⌝ }
     ensures { λ r. ⌜ r ≡ firstRefusal 0 (records setting) (recordNumber setting (now (ticket .entry))) ⌝ }
 {
+    let mut start: usize = 0;
     let mut which: u32 = 0;
     while which < PartNumber::COUNT {
-        let answer = read_part(setting, ticket, PartNumber(which));
+        let form = form_of(setting, PartNumber(which));
+        let answer = read_part(form, ticket, start);
         if answer.number != 0 {
             return answer;
         }
+        start += (form.rows as usize) * (form.columns as usize);
         which += 1;
     }
     Answer::PASSED
 }
 
-// The answer of a part; one without columns has no records. The tests are made without a branch first; one by one, for the first that fails, only where some record fails.
-fn read_part(setting: Setting, ticket: &[u8], which: PartNumber) -> Answer
-    requires { ⌜ ReadReady setting (now ticket) × (which .0 < 5) ⌝ }
-    ensures { λ r. ⌜ r ≡ partRead setting (now (ticket .entry)) (which .0) ⌝ }
+// The answer of a part, the first record of which is record start; one without columns has no records. The tests are made without a
+// branch first; one by one, for the first that fails, only where some record fails.
+fn read_part(form: Form, ticket: &[u8], start: usize) -> Answer
+    requires { ⌜ PartReady form start (now ticket) ⌝ }
+    ensures { λ r. ⌜ r ≡ partAnswer form start (formBytes form start (now (ticket .entry))) ⌝ }
 {
-    let form = form_of(setting, which);
     if form.columns == 0 {
         return Answer::PASSED;
     }
-    let records = part(setting, ticket, which);
+    let first = RECORD * start;
+    let size = RECORD * ((form.rows as usize) * (form.columns as usize));
+    let records = &ticket[first..first + size];
     if (SHORT_ROW < form.columns) && passes(records, form) {
         return Answer::PASSED;
     }
-    first_refusal(records, form, setting.start(which))
+    first_refusal(records, form, start as u32)
 }
 
 // What the records of a part have to be.

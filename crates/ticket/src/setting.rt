@@ -17,8 +17,8 @@ pub struct Setting {
     pub scale: u32,
     pub bound: u32,
     pub width: u32,
-    // whether a bias is added to each sum; where it is not, its bound is not read
-    pub biased: bool,
+    // above 0 where a bias is added to each sum; else its bound is not read. A word, so that a setting is copied in whole words
+    pub biased: u32,
     pub bias: u32,
 }
 
@@ -84,7 +84,7 @@ impl Setting {
     pub fn largest_bias(self) -> u32
         ensures { λ r. ⌜ r ≡ biasBound self ⌝ }
     {
-        if self.biased {
+        if 0 < self.biased {
             return self.bias;
         }
         0
@@ -94,7 +94,7 @@ impl Setting {
     pub fn bias_columns(self) -> u32
         ensures { λ r. ⌜ r ≡ biasColumns self ⌝ }
     {
-        if self.biased {
+        if 0 < self.biased {
             return self.columns;
         }
         0

@@ -18,7 +18,7 @@
 --   RecordsReady b a x   the records of b from a on can be multiplied with x
 --   DotReady l x      so can the numbers of l
 --   NarrowFactors l x o  these are below 2^16, and o is small
---   dot-small            the sum of products of records is below p
+--   dot-small, dot-none  the sum of products of records is below p, and 0 where there are none
 --   narrow-fits, narrow-more   then the sum of o and the products fits 64 bits, and one product more is added
 --   narrow-product, narrow-total   the same of the product and of the sum, as the code asks for it
 --   ProductReady b m x   b has m rows of records for x
@@ -57,6 +57,10 @@ dotWith offset list x = (offset + sum (length x) (λ j. getD list j 0 * getD x j
 pub dot-small : (bytes : List ℕ) (start : ℕ) (x : List ℕ) → dotOf bytes start x < modulus
 unfolding dotOf
 dot-small bytes start x = mod-lt _ modulus-positive
+
+pub dot-none : (bytes : List ℕ) (start : ℕ) (x : List ℕ) → length x ≡ 0 → 0 ≡ dotOf bytes start x
+unfolding dotOf
+dot-none bytes start x none = sym (rw none (ap (λ n. n % modulus) (sum-none (terms bytes start x)) ∙ mod-eq-of-lt modulus-positive))
 
 pub dot-more : (offset more : ℕ) (list x : List ℕ) → dotWith (offset + more) list x ≡ (dotWith offset list x + more) % modulus
 unfolding dotWith

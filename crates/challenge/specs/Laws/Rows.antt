@@ -34,7 +34,7 @@ use Rattle.ticket.specs.declared.Answer.{Answer}
 use Rattle.ticket.specs.Rules.{unless, answer, lift, recordBytes, biasColumns}
 use Rattle.ticket.specs.Laws.Limits.{clamped}
 use Rattle.ticket.specs.Laws.Runs.{Steps, step-answer, RunTo}
-use Rattle.challenge.specs.Laws.Products.{dotOf, dot-small, dotWith, offsetOf, offset-small, ResidueVector, RecordsReady, DotReady, NarrowFactors}
+use Rattle.challenge.specs.Laws.Products.{rowsTimes, dot-small, dotWith, offsetOf, offset-small, ResidueVector, RecordsReady, DotReady, NarrowFactors}
 
 abbrev pub sidesEqual : ℕ → ℕ → List ℕ → List ℕ → List ℕ → List ℕ → Bool
 sidesEqual left right a w x u = eqb (dotWith left w x) (dotWith right a u)
@@ -56,7 +56,7 @@ biasVector G x = take (biasColumns G) x
 
 abbrev pub rowAgrees : Setting → List ℕ → List ℕ → List ℕ → List ℕ → List ℕ → ℕ → Bool
 rowAgrees G a w d x u i =
-    sidesEqual (offsetOf (lift (clamped G)) x) (offsetOf (G .bound) u + dotOf d (i * biasColumns G) (biasVector G x))
+    sidesEqual (offsetOf (lift (clamped G)) x) (offsetOf (G .bound) u + rowsTimes d (biasVector G x) i)
     (lineAt a (length u) i) (lineAt w (length x) i) x u
 
 abbrev pub rowCost : Setting → List ℕ → List ℕ → ℕ
@@ -108,7 +108,7 @@ module _ {G : Setting} {a w d x u : List ℕ} {products : ℕ} (ready : VectorRo
   bias-long : length (take n x) ≡ n
   bias-long = length-take-le n x bias-within
 
-  pub bias-ready : {i : ℕ} → i < G .rows → RecordsReady d (i * n) (take n x)
+  pub bias-ready : {i : ℕ} → i < G .rows → RecordsReady d (i * length (take n x)) (take n x)
   bias-ready l =
       record {
         vector =
@@ -116,12 +116,12 @@ module _ {G : Setting} {a w d x u : List ℕ} {products : ℕ} (ready : VectorRo
               short = omega (arith, bias-long, bias-within, ready .vector-x .short);
               below = λ j m. rw (getD-take n x j 0 (omega (arith, bias-long))) (ready .vector-x .below j (omega (arith, bias-long, bias-within)));
             };
-        long = omega (arith, bias-long, row-inside n l, ready .long-bias, ap (λ k. G .rows * k) n-is);
+        long = rw bias-long (omega (arith, row-inside n l, ready .long-bias, ap (λ k. G .rows * k) n-is));
       }
 
 module _ {G : Setting} {a w d x u : List ℕ} {products : ℕ} (ready : VectorRowsReady G a w d x u products)
     {τ i : ℕ} {b : Answer} (run : RunTo (rowSteps G a w d x u τ products) i b) (l : i < G .rows)
-    {right n added : ℕ} (right-is : right ≡ offsetOf (G .bound) u) (n-is : n ≡ biasColumns G) (added-is : added ≡ dotOf d (i * n) (take n x))
+    {right n added : ℕ} (right-is : right ≡ offsetOf (G .bound) u) (n-is : n ≡ biasColumns G) (added-is : added ≡ rowsTimes d (take n x) i)
     {r s : List ℕ} (r-is : r ≡ lineAt a (length u) i) (s-is : s ≡ lineAt w (length x) i) where
   -- the products of one row more
   counted : b .products + n + length x + length u ≡ products + (i + 1) * rowCost G x u
@@ -131,7 +131,7 @@ module _ {G : Setting} {a w d x u : List ℕ} {products : ℕ} (ready : VectorRo
   products-fit = omega (arith, counted, row-inside (rowCost G x u) l, ready .few)
 
   pub offset-fits : right + added < 2 ^ 64
-  offset-fits = rw (right-is, added-is) (omega (arith, offset-small (G .bound) (length u) (λ j. getD u j 0), dot-small d (i * n) (take n x), modulus-below))
+  offset-fits = rw (right-is, added-is) (omega (arith, offset-small (G .bound) (length u) (λ j. getD u j 0), dot-small d (i * length (take n x)) (take n x), modulus-below))
 
   pub row-sides : SidesReady r s x u (right + added) (b .products + n)
   row-sides =
@@ -147,7 +147,7 @@ module _ {G : Setting} {a w d x u : List ℕ} {products : ℕ} (ready : VectorRo
                   omega (
                     arith,
                     offset-small (G .bound) (length u) (λ j. getD u j 0),
-                    dot-small d (i * n) (take n x),
+                    dot-small d (i * length (take n x)) (take n x),
                     modulus-below,
                   );
             };

@@ -22,7 +22,7 @@ use Rattle.algebra.specs.Rules.{sumℤ}
 use Rattle.algebra.specs.Laws.IntegerSums.{sumℤ-none, sumℤ-zero, residue-dot}
 use Rattle.algebra.specs.Laws.Fills.{lineAt, part-of}
 use Rattle.ticket.specs.declared.setting.Setting.{Setting}
-use Rattle.ticket.specs.Rules.{lift, halfRange, part, partSize, ofA, ofBias, ofQuotients, ofRemainders, biasColumns, entryA, entryBias, claim}
+use Rattle.ticket.specs.Rules.{lift, halfRange, part, partSize, ofA, ofBias, ofQuotients, ofRemainders, biasColumns, entryA, entryBias, claim, hasBias}
 use Rattle.ticket.specs.Laws.Decodes.{values-bias, ShiftedList, LiftedList, ShiftedEntries, LiftedClaims, entries-shifted, claims-lifted}
 use Rattle.ticket.specs.Laws.Layout.{partBytes, parts-are}
 use Rattle.ticket.specs.Laws.Limits.{with-bias, without-bias, bias-columns-most, clamped, clamped-same, lift-small}
@@ -30,7 +30,7 @@ use Rattle.ticket.specs.Laws.Differences.{no-bias-entry}
 use Rattle.ticket.specs.Laws.First.{true-or-false}
 use Rattle.ticket.specs.Laws.Passes.{Passed}
 use Rattle.challenge.specs.Rules.{challengeAt, balanced, claimSide, operandSide, productB}
-use Rattle.challenge.specs.Laws.Products.{dotOf, dotWith, dot-more, offsetOf, side-made}
+use Rattle.challenge.specs.Laws.Products.{dotOf, rowsTimes, dotWith, dot-more, offsetOf, side-made}
 use Rattle.challenge.specs.Laws.Rows.{biasVector, rowAgrees}
 
 pub record RoomFor (G : Setting) (y u : List ℕ) : Type 0 where
@@ -84,10 +84,10 @@ module _ {G : Setting} {t : List ℕ} (passed : Passed G t) where
         (λ e. ap (λ n. sumℤ n (λ j. entryBias G t i j *ℤ pos (challengeAt G x τ j))) (without-bias G e .1)
         ∙ sumℤ-none _
         ∙ sym (sumℤ-zero (G .columns) _ (λ j l. rw (no-bias-entry G t i j e) (zero-*ℤ (pos (challengeAt G x τ j))))))
-        (true-or-false (G .biased))
+        (true-or-false (hasBias G))
 
     -- the row of the bias, times the vector
-    bias-by : dotOf d (i * biasColumns G) (biasVector G y) ≡ leastResidue modulus (sumℤ (G .columns) (λ j. entryBias G t i j *ℤ pos (challengeAt G x τ j)))
+    bias-by : rowsTimes d (biasVector G y) i ≡ leastResidue modulus (sumℤ (G .columns) (λ j. entryBias G t i j *ℤ pos (challengeAt G x τ j)))
     unfolding dotOf
     bias-by =
         rw (bias-long)
@@ -96,11 +96,11 @@ module _ {G : Setting} {t : List ℕ} (passed : Passed G t) where
         ∙ sym (residue-dot modulus modulus-positive (biasColumns G) (entryBias G t i) (challengeAt G x τ))
         ∙ ap (leastResidue modulus) bias-sum)
 
-    operands-by : dotWith (offsetOf (G .bound) u + dotOf d (i * biasColumns G) (biasVector G y)) (lineAt a (length u) i) u
+    operands-by : dotWith (offsetOf (G .bound) u + rowsTimes d (biasVector G y) i) (lineAt a (length u) i) u
         ≡ operandSide G t x τ i
     unfolding operandSide
     operands-by =
-        dot-more (offsetOf (G .bound) u) (dotOf d (i * biasColumns G) (biasVector G y)) (lineAt a (length u) i) u
+        dot-more (offsetOf (G .bound) u) (rowsTimes d (biasVector G y) i) (lineAt a (length u) i) u
         ∙ rw (
           side-made (G .bound) (G .inner) (entryA G t i) (productB G t x τ) (lineAt a (length u) i) u
               (omega (arith, passed .numbers .bound, modulus-above)) (room .inner) product

@@ -31,7 +31,7 @@ use Rattle.algebra.specs.Laws.FloorDivision.{floor-left, floor-unique}
 use Rattle.algebra.specs.Laws.IntegerSums.{size-difference}
 use Rattle.algebra.specs.Laws.MatrixProducts.{matrixProduct-cong}
 use Rattle.ticket.specs.declared.setting.Setting.{Setting}
-use Rattle.ticket.specs.Rules.{reach, halfRange, lift, parts, part, start, records, recordBytes, ofA, ofB, ofBias, ofQuotients, ofRemainders, biasBound, biasColumns, recordTests, Passes, FalseIn, byteAt, valueAt, valueIn, entryA, entryB, entryBias, quotient, remainder, biasedSum, due}
+use Rattle.ticket.specs.Rules.{reach, halfRange, lift, parts, part, start, records, recordBytes, ofA, ofB, ofBias, ofQuotients, ofRemainders, biasBound, biasColumns, recordTests, Passes, FalseIn, byteAt, valueAt, valueIn, entryA, entryB, entryBias, quotient, remainder, biasedSum, due, hasBias}
 use Rattle.ticket.specs.Laws.Differences.{claim-is, biasedSum-is, no-bias-entry, size-entryA, size-entryB, size-bias, residue-bias, size-quotient, small-remainder, residue-entryA, residue-entryB, residue-quotient, residue-remainder, claims-true}
 use Rattle.ticket.specs.Laws.Layout.{located-at, tests-located, value-in, part-A, part-B, part-bias, part-quotients, part-remainders, range-A, range-B, range-bias, range-quotients, range-remainders, every-part}
 use Rattle.ticket.specs.Laws.Limits.{counts, with-bias, bias-there, bias-small, half-small, half-double, lift-small}
@@ -170,7 +170,7 @@ module _ {G : Setting} {A B C : List ℤ} (w : Writable G A B C) where
         equal-small (biasBound G) (size-bias passed i j l m) (size-C w i j l m) (small .1)
         (residue-bias passed i j l there ∙ value-in-ticket G A B C ofBias i j (rw (part-bias G .rows-are) l) (rw (part-bias G .columns-are) there)))
         (λ e. no-bias-entry G (ticketOf G A B C) i j e ∙ sym (no-bias w e (i * biasColumns G + j)))
-        (true-or-false (G .biased))
+        (true-or-false (hasBias G))
 
     pub written-quotient : quotient G (ticketOf G A B C) i j ≡ quotientOf G A B C i j
     unfolding integersOf integerIn

@@ -22,7 +22,7 @@ use lib.ListN.{length, take, drop, length-append, length-take, length-drop}
 use lib.Seq.{take-at}
 use Rattle.ticket.specs.declared.setting.Setting.{Setting}
 use Rattle.ticket.specs.declared.Answer.{Answer}
-use Rattle.ticket.specs.Rules.{refusal, after, settingTests, settingNumber, reading}
+use Rattle.ticket.specs.Rules.{refusal, after, settingTests, settingNumber, reading, hasBias}
 use Rattle.ticket.specs.Laws.Tests.{hold-or-failed, failed-number}
 use Rattle.ticket.specs.Laws.Limits.{counts, limits-of, without-bias}
 use Rattle.ticket.specs.Laws.Layout.{longestTicket, length-most}
@@ -38,7 +38,7 @@ use Rattle.files.specs.Laws.Checks.{setting-file-refused, after-setting}
 abbrev pub longestChallenge : ℕ
 longestChallenge = numberBytes * mostNumbers
 
-pub long-ticket : (G : Setting) (t : List ℕ) → G .biased ≡ false → longestTicket < length t → reading G t ≡ after (refusal (settingNumber G) 0) (refusal 4 0)
+pub long-ticket : (G : Setting) (t : List ℕ) → hasBias G ≡ false → longestTicket < length t → reading G t ≡ after (refusal (settingNumber G) 0) (refusal 4 0)
 long-ticket G t none l =
     ⊎-elim
     (λ h. wrong-length G t (λ e.
@@ -53,8 +53,8 @@ module _ (s t c : List ℕ) where
   abbrev G : Setting
   G = settingOf s
 
-  file-plain : G .biased ≡ false
-  unfolding settingOf
+  file-plain : hasBias G ≡ false
+  unfolding settingOf hasBias
   file-plain = refl
 
   setting-start : (i : ℕ) → settingBytes < i → fileCheck (take i s) t c ≡ fileCheck s t c

@@ -40,7 +40,7 @@ use Rattle.residue.specs.Laws.Residues.{entry-low, entry-high, entry-small, res
 use Rattle.algebra.specs.Laws.Fills.{Filled}
 use Rattle.algebra.specs.Laws.Positions.{by-rows}
 use Rattle.ticket.specs.declared.setting.Setting.{Setting}
-use Rattle.ticket.specs.Rules.{halfRange, lift, parts, part, partSize, ofA, ofB, ofBias, ofQuotients, ofRemainders, biasColumns, recordBytes, valueAt, valueIn, shiftedQuotient, entryA, entryB, entryBias, quotient, remainder, claim}
+use Rattle.ticket.specs.Rules.{halfRange, lift, parts, part, partSize, ofA, ofB, ofBias, ofQuotients, ofRemainders, biasColumns, recordBytes, valueAt, valueIn, shiftedQuotient, entryA, entryB, entryBias, quotient, remainder, claim, hasBias}
 use Rattle.ticket.specs.Laws.First.{true-or-false}
 use Rattle.ticket.specs.Laws.Limits.{with-bias, without-bias, half-small, clamped, clamped-same}
 use Rattle.ticket.specs.Laws.Layout.{partBytes, part-bytes-long, value-of-part, value-in}
@@ -300,7 +300,7 @@ module _ {G : Setting} {t : List ℕ} (passed : Passed G t) where
       lifted = ap (leastResidue (2 ^ 32)) (sym (claims .each i j l m)) ∙ residue-of-residue (2 ^ 32) word (getD y' k 0) (claims .words i j l m)
 
       -- where there is a bias, its entry is taken off
-      less-bias : G .biased ≡ true → getD y k 0 ≡ leastResidue (2 ^ 32) (C -ℤ entryBias G t i j)
+      less-bias : hasBias G ≡ true → getD y k 0 ≡ leastResidue (2 ^ 32) (C -ℤ entryBias G t i j)
       unfolding parts part
       less-bias there =
           let wide = with-bias G there .1 in
@@ -317,7 +317,7 @@ module _ {G : Setting} {t : List ℕ} (passed : Passed G t) where
               (omega (arith, parts-sum a (pos 0 -ℤ b), parts-difference (pos 0) b, parts-difference a b))
 
       -- where there is none, nothing is
-      less-none : G .biased ≡ false → getD y k 0 ≡ leastResidue (2 ^ 32) (C -ℤ entryBias G t i j)
+      less-none : hasBias G ≡ false → getD y k 0 ≡ leastResidue (2 ^ 32) (C -ℤ entryBias G t i j)
       unfolding parts part
       less-none none =
           let h = decodable passed ofBias d-is in
@@ -328,5 +328,5 @@ module _ {G : Setting} {t : List ℕ} (passed : Passed G t) where
     claims-less =
         record {
           long = omega (arith, claims .long, less .long);
-          each = λ i j l m. ⊎-elim (less-bias i j l m) (less-none i j l m) (true-or-false (G .biased));
+          each = λ i j l m. ⊎-elim (less-bias i j l m) (less-none i j l m) (true-or-false (hasBias G));
         }

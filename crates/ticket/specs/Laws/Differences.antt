@@ -33,7 +33,7 @@ use Rattle.algebra.specs.Rules.{matrixProduct}
 use Rattle.algebra.specs.Laws.IntegerSums.{size-sum, size-difference, size-product}
 use Rattle.algebra.specs.Laws.MatrixProducts.{size-matrixProduct}
 use Rattle.ticket.specs.declared.setting.Setting.{Setting}
-use Rattle.ticket.specs.Rules.{reach, halfRange, isEntry, shiftedQuotient, parts, part, ofA, ofB, ofBias, ofQuotients, ofRemainders, biasBound, biasColumns, valueIn, entryA, entryB, entryBias, quotient, remainder, claim, exactSum, biasedSum, due, Untrue, FalseIn}
+use Rattle.ticket.specs.Rules.{reach, halfRange, isEntry, shiftedQuotient, parts, part, ofA, ofB, ofBias, ofQuotients, ofRemainders, biasBound, biasColumns, valueIn, entryA, entryB, entryBias, quotient, remainder, claim, exactSum, biasedSum, due, Untrue, FalseIn, hasBias}
 use Rattle.ticket.specs.Laws.First.{true-or-false, all-or-first}
 use Rattle.ticket.specs.Laws.Limits.{half-double, with-bias, bias-there}
 use Rattle.ticket.specs.Laws.Passes.{Passed, Valid, valid}
@@ -48,11 +48,11 @@ unfolding claim
 claim-is G t i j = refl
 
 module _ (G : Setting) (t : List ℕ) (i j : ℕ) where
-  pub bias-entry : G .biased ≡ true → entryBias G t i j ≡ signedEntry modulus (valueIn G t ofBias i j)
+  pub bias-entry : hasBias G ≡ true → entryBias G t i j ≡ signedEntry modulus (valueIn G t ofBias i j)
   unfolding entryBias
   bias-entry e = rw e
 
-  pub no-bias-entry : G .biased ≡ false → entryBias G t i j ≡ pos 0
+  pub no-bias-entry : hasBias G ≡ false → entryBias G t i j ≡ pos 0
   unfolding entryBias
   no-bias-entry e = rw e
 
@@ -76,7 +76,7 @@ module _ {G : Setting} {t : List ℕ} (passed : Passed G t) where
   size-entryB k j l m = leb-true _ _ (valid passed ofB k j l m .in-range)
 
   module _ (i j : ℕ) (l : i < G .rows) (m : j < G .columns) where
-    valid-bias : G .biased ≡ true → Valid (part G ofBias) (valueIn G t ofBias i j)
+    valid-bias : hasBias G ≡ true → Valid (part G ofBias) (valueIn G t ofBias i j)
     unfolding parts part
     valid-bias e = valid passed ofBias i j l (rw (with-bias G e .1) m)
 
@@ -86,7 +86,7 @@ module _ {G : Setting} {t : List ℕ} (passed : Passed G t) where
         ⊎-elim
         (λ e. rw (bias-entry G t i j e) (leb-true _ _ (valid-bias e .in-range)))
         (λ e. rw (no-bias-entry G t i j e) (omega arith))
-        (true-or-false (G .biased))
+        (true-or-false (hasBias G))
 
     pub shifted-below : shiftedQuotient (G .width) (valueIn G t ofQuotients i j) < 2 ^ G .width
     unfolding parts part

@@ -10,6 +10,7 @@
 --   setting-numbered       the numbers of the tests
 --   SettingRow G c, setting-in-table   c is a number of the published table for a setting, and so is that of a test that fails
 --   setting-holds          they all hold, where the number of the setting is 0
+--   bias-flag, no-bias-flag   whether there is a bias
 --   with-bias, without-bias   bound and columns of the bias, where there is one and where there is none
 --   bias-there             a column of the bias is one of the claims, and there is a bias
 --   bias-columns-most      the bias has at most as many columns as the claims
@@ -28,12 +29,12 @@ use native.Mathlib.Omega.{arith}
 use mathlib.Core.Path.{_≡_, refl, sym, ap, _∙_}
 use mathlib.Core.Bool.{Bool, true, false, true≢false, _&&_, and-eq-true-iff}
 use mathlib.Core.Logic.{inl, inr, ⊎-elim}
-use borrow.Author.Tests.{leb-true, ltb-true, le-leb}
+use borrow.Author.Tests.{leb-true, ltb-true, le-leb, lt-ltb, le-ltb}
 use lib.Dec.{leb}
 use lib.Pow.{pow-mono}
 use Rattle.residue.specs.Rules.{modulus}
 use Rattle.ticket.specs.declared.setting.Setting.{Setting}
-use Rattle.ticket.specs.Rules.{within, mostRows, mostInner, mostColumns, mostVectors, mostScale, mostBound, mostWidth, mostBiasBound, biasWithin, reach, halfRange, lift, sizesWithin, numbersWithin, fits, settingTests, settingNumber, sumProducts, biasBound, biasColumns}
+use Rattle.ticket.specs.Rules.{within, mostRows, mostInner, mostColumns, mostVectors, mostScale, mostBound, mostWidth, mostBiasBound, biasWithin, reach, halfRange, lift, sizesWithin, numbersWithin, fits, settingTests, settingNumber, sumProducts, hasBias, biasBound, biasColumns}
 use Rattle.ticket.specs.Laws.First.{true-or-false}
 use Rattle.ticket.specs.Laws.Tests.{AllHold, Failed, here, later, first-holds, rest-hold, Numbered, tests-hold}
 
@@ -75,20 +76,28 @@ pub record Counts (G : Setting) : Type 0 where
   pub products : sumProducts G ≤ mostRows * mostInner * mostColumns
 
 module _ (G : Setting) where
-  pub with-bias : G .biased ≡ true → (biasBound G ≡ G .bias) × (biasColumns G ≡ G .columns)
+  pub bias-flag : 0 < G .biased → hasBias G ≡ true
+  unfolding hasBias
+  bias-flag l = lt-ltb 0 (G .biased) l
+
+  pub no-bias-flag : G .biased ≤ 0 → hasBias G ≡ false
+  unfolding hasBias
+  no-bias-flag l = le-ltb 0 (G .biased) l
+
+  pub with-bias : hasBias G ≡ true → (biasBound G ≡ G .bias) × (biasColumns G ≡ G .columns)
   unfolding biasBound biasColumns
   with-bias e = rw e (refl, refl)
 
-  pub without-bias : G .biased ≡ false → (biasBound G ≡ 0) × (biasColumns G ≡ 0)
+  pub without-bias : hasBias G ≡ false → (biasBound G ≡ 0) × (biasColumns G ≡ 0)
   unfolding biasBound biasColumns
   without-bias e = rw e (refl, refl)
 
-  pub bias-there : {j : ℕ} → j < biasColumns G → (G .biased ≡ true) × (j < G .columns)
+  pub bias-there : {j : ℕ} → j < biasColumns G → (hasBias G ≡ true) × (j < G .columns)
   bias-there m =
-      ⊎-elim (λ e. (e, omega (arith, with-bias e .1))) (λ e. absurd (omega (arith, without-bias e .1))) (true-or-false (G .biased))
+      ⊎-elim (λ e. (e, omega (arith, with-bias e .1))) (λ e. absurd (omega (arith, without-bias e .1))) (true-or-false (hasBias G))
 
   pub bias-columns-most : biasColumns G ≤ G .columns
-  bias-columns-most = ⊎-elim (λ e. omega (arith, with-bias e .1)) (λ e. omega (arith, without-bias e .1)) (true-or-false (G .biased))
+  bias-columns-most = ⊎-elim (λ e. omega (arith, with-bias e .1)) (λ e. omega (arith, without-bias e .1)) (true-or-false (hasBias G))
 
 pub counts : {G : Setting} → Sizes G → Counts G
 counts {G} sizes =
@@ -143,7 +152,7 @@ setting-holds G e = tests-hold (settingTests G) (setting-numbered G) e
 -- only a setting with a bias has the number 17
 pub data SettingRow (G : Setting) : ℕ → Type 0 where
   setting-row : (c : ℕ) → 1 ≤ c → c ≤ 3 → SettingRow G c
-  bias-bound-row : G .biased ≡ true → SettingRow G 17
+  bias-bound-row : hasBias G ≡ true → SettingRow G 17
 
 pub setting-in-table : (G : Setting) {c : ℕ} → Failed (settingTests G) c → SettingRow G c
 unfolding settingTests biasWithin
@@ -152,7 +161,7 @@ setting-in-table G (later a (here e)) = setting-row 2 (omega arith) (omega arith
 setting-in-table G (later a (later b (here e))) =
     ⊎-elim bias-bound-row
     (λ none. absurd (true≢false (sym (le-leb (biasBound G) mostBiasBound (omega (arith, without-bias G none .0))) ∙ e)))
-    (true-or-false (G .biased))
+    (true-or-false (hasBias G))
 setting-in-table G (later a (later b (later c (here e)))) = setting-row 3 (omega arith) (omega arith)
 
 pub half-small : {G : Setting} → Numbers G → halfRange G ≤ 2 ^ 29

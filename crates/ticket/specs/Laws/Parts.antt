@@ -5,10 +5,12 @@
 --   bounds-small       twice the bound of the entries, or of the bias, is below p
 --   forms-make         the forms of the parts do
 --   ReadReady G t      setting and length pass their tests
---   part-empty         a part whose form has no columns has no records to refuse
---   PartRecords G t w b F   setting and length pass, b are the bytes of part w, F makes its tests, and has columns
---   part-holds, part-early   then the part can be read by its form, and does not start late
---   partRead G t w, part-answer   the answer of part w, and that it is the code's by the form of the part
+--   formBytes F a t    the bytes of the part of form F, the first record of which is record a
+--   PartReady F a t    they are inside the ticket, and are not many
+--   part-empty, part-holds   the part has no columns, so no records, or can be read by its form
+--   partRead G t w     the answer of part w
+--   part-ready, part-answer, part-end   the form that makes its tests, from where it starts: its records are ready, its answer is that of
+--                      the part, and the next part starts after it
 --   ReadTo G t w       the records before part w pass
 --   read-none, read-next, read-refused, read-all   no part yet, one that passes more, one that does not, and all parts
 use Prim.Native.Nat.{ℕ, _+_, _-_, _*_, _/_, _%_, _^_, _≤_, _<_}
@@ -21,15 +23,16 @@ use mathlib.Core.List.{List, [], _∷_}
 use borrow.Author.Tests.{le-ltb}
 use lib.Dec.{leb, ltb}
 use lib.IntN.{natAbs}
-use lib.ListN.{length}
+use lib.ListN.{length, take, drop}
 use Rattle.residue.specs.Rules.{modulus, signedEntry}
 use Rattle.residue.specs.Laws.Modulo.{mod-once}
 use Rattle.residue.specs.Laws.Residues.{entry-low, entry-high}
 use Rattle.residue.specs.Laws.Modulus.{modulus-positive, modulus-above}
+use Rattle.algebra.specs.Laws.Fills.{part-long}
 use Rattle.ticket.specs.declared.setting.Setting.{Setting}
 use Rattle.ticket.specs.declared.Answer.{Answer}
 use Rattle.ticket.specs.declared.records.Form.{Form}
-use Rattle.ticket.specs.Rules.{test, firstFailed, Part, parts, part, ofA, ofB, ofBias, ofQuotients, ofRemainders, biasBound, biasColumns, partSize, start, records, isEntry, isQuotient, shiftedQuotient, ticketLength, formed, valueAt, partTests, recordTests, recordNumber, refusal, firstRefusal}
+use Rattle.ticket.specs.Rules.{test, firstFailed, Part, parts, part, ofA, ofB, ofBias, ofQuotients, ofRemainders, biasBound, biasColumns, partSize, start, records, recordBytes, isEntry, isQuotient, shiftedQuotient, ticketLength, formed, valueAt, partTests, recordTests, recordNumber, refusal, firstRefusal}
 use Rattle.ticket.specs.Laws.Limits.{Numbers, Counts, Within, bias-small, half-small, half-double, clamped, clamped-same}
 use Rattle.ticket.specs.Laws.Layout.{parts-are, start-none, start-next, ends-within, start-past, holder-at, partBytes, part-bytes-long, form-of-part, value-of-part}
 use Rattle.ticket.specs.Laws.Tests.{same-test}
@@ -116,55 +119,76 @@ pub record ReadReady (G : Setting) (t : List ℕ) : Type 0 where
 unfoldable pub partRead : Setting → List ℕ → ℕ → Answer
 partRead G t w = firstRefusal (start G w) (partSize (part G w)) (λ i. recordNumber G t (start G w + i))
 
-pub part-empty : (G : Setting) (t : List ℕ) (w : ℕ) {F : Form} → MakesTests F (part G w) → F .columns ≡ 0 → refusal 0 0 ≡ partRead G t w
-unfolding partRead
-part-empty G t w makes none =
-    let size : partSize (part G w) ≡ 0 = omega (arith, ap (λ n. part G w .rows * n) (sym (makes .columns) ∙ none)) in
-    sym (refusal-none (start G w) (partSize (part G w)) _ (λ k l. absurd (omega arith)))
+-- the bytes of the part of form F, the first record of which is record a
+abbrev pub formBytes : Form → ℕ → List ℕ → List ℕ
+formBytes F a t = take (recordBytes * a + recordBytes * (F .rows * F .columns) - recordBytes * a) (drop (recordBytes * a) t)
 
--- b are the bytes of a part that can be read, and F makes its tests
-pub record PartRecords (G : Setting) (t : List ℕ) (w : ℕ) (b : List ℕ) (F : Form) : Type 0 where
-  pub ready : ReadReady G t
-  pub bytes : b ≡ partBytes (clamped G) t w
-  pub makes : MakesTests F (part G w)
-  pub wide : 1 ≤ F .columns
+pub record PartReady (F : Form) (a : ℕ) (t : List ℕ) : Type 0 where
+  pub few : F .rows * F .columns < 2 ^ 16
+  pub early : a < 2 ^ 16
+  pub long : recordBytes * (a + F .rows * F .columns) ≤ length t
+  pub range : Ranged F
 
-module _ {G : Setting} {t : List ℕ} {w : ℕ} {b : List ℕ} {F : Form} (part-is : PartRecords G t w b F) where
-  same : clamped G ≡ G
-  same = clamped-same (part-is .ready .counts .sizes) (part-is .ready .within .numbers)
+module _ (F : Form) (a : ℕ) (t : List ℕ) where
+  pub part-empty : F .columns ≡ 0 → refusal 0 0 ≡ partAnswer F a (formBytes F a t)
+  part-empty none =
+      let size : F .rows * F .columns ≡ 0 = omega (arith, ap (λ n. F .rows * n) none) in
+      sym (refusal-none a (F .rows * F .columns) _ (λ k l. absurd (omega arith)))
 
-  size : F .rows * F .columns ≡ partSize (part G w)
-  size = rw (part-is .makes .rows, part-is .makes .columns)
-
-  pub part-holds : Holds b F
-  part-holds =
+  pub part-holds : PartReady F a t → 1 ≤ F .columns → Holds (formBytes F a t) F
+  part-holds ready wide =
       record {
-        columns = part-is .wide;
-        few = omega (arith, size, ends-within G w, parts-are G .all, part-is .ready .counts);
-        long = rw (part-is .bytes, same) (omega (arith, size, part-bytes-long G t w (part-is .ready .long)));
-        range = part-is .makes .ranged;
+        columns = wide;
+        few = ready .few;
+        long = omega (arith, part-long t (recordBytes * a) (recordBytes * (F .rows * F .columns)) (omega (arith, ready .long)));
+        range = ready .range;
       }
 
+module _ {G : Setting} {t : List ℕ} (w : ℕ) {a : ℕ} {F : Form} (ready : ReadReady G t) (makes : MakesTests F (part G w)) (from : a ≡ start G w) where
+  size : F .rows * F .columns ≡ partSize (part G w)
+  size = rw (makes .rows, makes .columns)
+
+  length-within : recordBytes * (a + F .rows * F .columns) ≤ ticketLength G
+  unfolding ticketLength
+  length-within = omega (arith, size, ends-within G w)
+
+  pub part-ready : PartReady F a t
+  part-ready =
+      record {
+        few = omega (arith, size, ends-within G w, parts-are G .all, ready .counts);
+        early = omega (arith, ends-within G w, parts-are G .all, ready .counts);
+        long = rw (ready .long) length-within;
+        range = makes .ranged;
+      }
+
+  bytes-are : formBytes F a t ≡ partBytes G t w
+  unfolding partBytes
+  bytes-are =
+      let n = recordBytes * partSize (part G w) in
+      let long : recordBytes * start G w + n - recordBytes * start G w ≡ n = omega arith in
+      rw (size, from, long)
+
   -- record i of the part, by the form of the code
-  tested-part : (i : ℕ) → i < partSize (part G w) → tested b F i ≡ recordNumber G t (start G w + i)
+  tested-part : (i : ℕ) → i < partSize (part G w) → tested (formBytes F a t) F i ≡ recordNumber G t (start G w + i)
   unfolding testedAt recordTests partTests
   tested-part i m =
       let P = part G w in
       let value = valueAt t (start G w + i) in
       let index : start G w + i - start G w ≡ i = omega arith in
-      let makes = part-is .makes in
-      rw (part-is .bytes, same, holder-at G m, index, makes .kind, makes .columns, makes .outside)
+      rw (bytes-are, holder-at G m, index, makes .kind, makes .columns, makes .outside)
       (rw (form-of-part G t w m (P .kind) (i / P .columns) (i % P .columns), value-of-part G t w m)
       (number-range (formed t (start G w + i) (P .kind) (i / P .columns) (i % P .columns)) value
       (ltb ((value + F .shift) % modulus) (F .limit)) (P .range value) (P .outside) (makes .range value)))
 
-  module _ {a : ℕ} (from : a ≡ start (clamped G) w) where
-    pub part-early : a < 2 ^ 16
-    part-early = rw (from, same) (omega (arith, ends-within G w, parts-are G .all, part-is .ready .counts))
+  pub part-answer : partAnswer F a (formBytes F a t) ≡ partRead G t w
+  unfolding partRead
+  part-answer =
+      let b = formBytes F a t in
+      ap (λ n. firstRefusal a n (tested b F)) size ∙ ap (λ n. firstRefusal n (partSize (part G w)) (tested b F)) from
+      ∙ refusal-cong (start G w) (partSize (part G w)) _ _ tested-part
 
-    pub part-answer : partAnswer F a b ≡ partRead G t w
-    unfolding partRead
-    part-answer = rw (from, same, size) (refusal-cong (start G w) (partSize (part G w)) _ _ tested-part)
+  pub part-end : a + F .rows * F .columns ≡ start G (w + 1)
+  part-end = omega (arith, size, start-next G w)
 
 -- the records before part w pass
 abbrev pub ReadTo : Setting → List ℕ → ℕ → Type 0

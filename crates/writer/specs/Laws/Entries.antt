@@ -18,7 +18,7 @@ use lib.IntN.{ℤ, pos, natAbs}
 use lib.ListN.{length, getD, List·getD-eq-default}
 use Rattle.residue.specs.Laws.Modulus.{modulus-below}
 use Rattle.ticket.specs.declared.setting.Setting.{Setting}
-use Rattle.ticket.specs.Rules.{reach, halfRange, lift, biasBound, biasColumns}
+use Rattle.ticket.specs.Rules.{reach, halfRange, lift, biasBound, biasColumns, hasBias}
 use Rattle.ticket.specs.Laws.Differences.{size-sum-of}
 use Rattle.ticket.specs.Laws.Layout.{parts-are}
 use Rattle.ticket.specs.Laws.Limits.{Within, limits-of, with-bias, without-bias, bias-small, clamped, clamped-same, lift-small}
@@ -63,7 +63,7 @@ module _ {G : Setting} {A B C : List ℤ} (w : Writable G A B C) where
   pub size-B : (k j : ℕ) → k < G .inner → j < G .columns → natAbs (entryOf (G .columns) B k j) ≤ G .bound
   size-B k j l m = w .within-B (k * G .columns + j) (omega (arith, long-B, digits-lt l m))
 
-  pub no-bias : G .biased ≡ false → (i : ℕ) → getD C i (pos 0) ≡ pos 0
+  pub no-bias : hasBias G ≡ false → (i : ℕ) → getD C i (pos 0) ≡ pos 0
   no-bias e i = List·getD-eq-default C (pos 0) (omega (arith, long-C, ap (λ n. G .rows * n) (without-bias G e .1)))
 
   pub size-C : (i j : ℕ) → i < G .rows → j < G .columns → natAbs (entryOf (biasColumns G) C i j) ≤ biasBound G
@@ -73,7 +73,7 @@ module _ {G : Setting} {A B C : List ℤ} (w : Writable G A B C) where
       let inside : j < biasColumns G = omega arith in
       w .within-C (i * biasColumns G + j) (omega (arith, long-C, digits-lt l inside)))
       (λ e. rw (no-bias e (i * biasColumns G + j)) (omega arith))
-      (true-or-false (G .biased))
+      (true-or-false (hasBias G))
 
   pub size-sumFor : (i j : ℕ) → i < G .rows → j < G .columns → natAbs (sumFor G A B C i j) ≤ reach G
   size-sumFor i j l m =

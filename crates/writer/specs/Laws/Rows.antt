@@ -32,7 +32,7 @@ use Rattle.algebra.specs.Laws.Fills.{Filled, part-of}
 use Rattle.algebra.specs.Laws.Positions.{row-inside}
 use Rattle.exact.specs.Laws.Matrices.{turnedNumber, RowSums, row-sums-exact}
 use Rattle.ticket.specs.declared.setting.Setting.{Setting}
-use Rattle.ticket.specs.Rules.{mostRows, mostInner, mostColumns, recordBytes, ticketLength, halfRange, start, ofQuotients, ofRemainders, biasColumns}
+use Rattle.ticket.specs.Rules.{mostRows, mostInner, mostColumns, recordBytes, ticketLength, halfRange, start, ofQuotients, ofRemainders, biasColumns, hasBias}
 use Rattle.ticket.specs.Laws.Differences.{biasedSum-is}
 use Rattle.ticket.specs.Laws.Layout.{parts-are, length-is, PartIs, part-quotients, part-remainders}
 use Rattle.ticket.specs.Laws.Limits.{with-bias, without-bias, counts, clamped}
@@ -197,8 +197,8 @@ module _ {G : Setting} {A B C : List ℤ} (w : Writable G A B C) {row : ℕ} (l 
   bias-ready long =
       record {
         inside = λ some.
-            let there : G .biased ≡ true =
-            ⊎-elim (λ e. e) (λ e. absurd (some (omega (arith, long-C w, ap (λ n. G .rows * n) (without-bias G e .1))))) (true-or-false (G .biased)) in
+            let there : hasBias G ≡ true =
+            ⊎-elim (λ e. e) (λ e. absurd (some (omega (arith, long-C w, ap (λ n. G .rows * n) (without-bias G e .1))))) (true-or-false (hasBias G)) in
             omega (arith, long-C w, ap (λ n. G .rows * n) (with-bias G there .1), row-inside (G .columns) l);
       }
 
@@ -219,7 +219,7 @@ module _ {G : Setting} {A B C : List ℤ} (w : Writable G A B C) {row : ℕ} (l 
       (λ e. let none : eqb (length C) 0 ≡ true = eq-eqb (length C) 0 (omega (arith, long-C w, ap (λ n. G .rows * n) (without-bias G e .1))) in
       added .rest j (rw none (omega arith)) ∙ sum
       ∙ ap (leastResidue (2 ^ 32)) (sym (ap (λ z. P +ℤ z) (no-bias w e (row * biasColumns G + j)) ∙ +ℤ-idr P)) ∙ due)
-      (true-or-false (G .biased))
+      (true-or-false (hasBias G))
 
 pub rows-none : (G : Setting) (A B C : List ℤ) {before : List ℕ} → ClaimsWrote G A B C 0 before before
 rows-none G A B C = wrote-none (λ k. ⊎-elim (λ a. omega (arith, a .from, a .below)) (λ a. omega (arith, a .from, a .below)))

@@ -4,7 +4,6 @@ use native.Mathlib.Omega.{arith}
 use borrow.Author.Needs.{needs}
 use lib.Seq.{length-take-le}
 use mathlib.Core.Path.{_≡_, sym, ap}
-use Rattle.residue.specs.Laws.Products.{product-below}
 use Rattle.ticket.specs.Rules.{answer}
 use Rattle.ticket.specs.Laws.Runs.{step-answer, RunTo, run-none, run-next, run-stopped, run-ended}
 use Rattle.challenge.specs.Laws.Rows.{rowSteps, line-inside, bias-within, bias-ready, products-fit, offset-fits, row-sides, row-step}
@@ -20,11 +19,14 @@ abbrev μ-loop : tie.MeasureT-loop
 abbrev width : tie.At-loop Inv-loop μ-loop → tie.After-bias-columns Inv-loop μ-loop
 width c = c .before .before
 
-abbrev start : tie.At-loop Inv-loop μ-loop → tie.Start Inv-loop μ-loop
-start c = width c .before .before .before .before .before .before .before .before .before .before
+abbrev begun : tie.After-bias-columns Inv-loop μ-loop → tie.Start Inv-loop μ-loop
+begun c = c .before .before .before .before .before .before .before .before .before .before
 
-abbrev lines : tie.After-struct-known4 Inv-loop μ-loop → tie.After-line2 Inv-loop μ-loop
-lines c = c .before .before
+abbrev start : tie.At-loop Inv-loop μ-loop → tie.Start Inv-loop μ-loop
+start c = begun (width c)
+
+abbrev lines : tie.After-struct-known3 Inv-loop μ-loop → tie.After-line2 Inv-loop μ-loop
+lines c = c .before
 
 abbrev at : tie.After-line2 Inv-loop μ-loop → tie.At-loop Inv-loop μ-loop
 at c = c .before .before .before .before .before
@@ -42,7 +44,7 @@ step c =
     let row = lines (c .before) in
     let loop = at row in
     row-step (start loop .pre) (loop .loop .inv) (row .before .before .before .if1 .taken) (width loop .before .offset2 .ensures)
-    (width loop .bias-columns .ensures) (row .before .before .dot-records .ensures) (row .before .line .ensures) (row .line2 .ensures)
+    (width loop .bias-columns .ensures) (row .before .before .row-bias .ensures) (row .before .line .ensures) (row .line2 .ensures)
     (shift loop .lift .ensures) (shift2 loop .offset .ensures) (c .check-row .ensures)
 
 check-row-requires : tie.Need-check-row-requires Inv-loop μ-loop
@@ -50,7 +52,7 @@ check-row-requires c κs =
     let row = lines c in
     let loop = at row in
     row-sides (start loop .pre) (loop .loop .inv) (row .before .before .before .if1 .taken) (width loop .before .offset2 .ensures)
-    (width loop .bias-columns .ensures) (row .before .before .dot-records .ensures) (row .before .line .ensures) (row .line2 .ensures)
+    (width loop .bias-columns .ensures) (row .before .before .row-bias .ensures) (row .before .line .ensures) (row .line2 .ensures)
 
 returns : tie.Need-returns Inv-loop μ-loop
 returns c = search (run-stopped, step (c .before .before))
@@ -65,7 +67,10 @@ pub check-rows-spec : {M : Type 1} → statement M
 check-rows-spec =
     tie.close
     (tie.spec Inv-loop μ-loop (λ c κs. search needs) (λ c κs. (search, rw (c .lift .ensures) (search))) (λ c. omega arith)
-    (λ c κs. search) (λ c κs. search needs) (λ c. search needs) (λ c. sym (length-take-le _ _ (bias-within (c .before .before .before .before .before .before .before .before .before .before .before .pre) (c .before .bias-columns .ensures)))) (λ c. run-none (ap (answer 0 0 0) (omega arith))) (λ c. omega arith) (λ c. record { fits = product-below 32 (omega arith) (omega arith) }) (λ c κs. search bias-ready)
+    (λ c κs. search) (λ c κs. search needs) (λ c. search needs)
+    (λ c. sym (length-take-le _ _ (bias-within (begun (c .before) .pre) (c .before .bias-columns .ensures))))
+    (λ c. run-none (ap (answer 0 0 0) (omega arith))) (λ c κs. search bias-ready)
     (λ c κs. line-inside _ (c .before .if1 .taken) (start (c .before .before .before) .pre .long-A))
-    (λ c κs. line-inside _ (c .before .before .if1 .taken) (start (c .before .before .before .before) .pre .long-claims)) (λ c. search needs) (λ c. search offset-fits) (λ c. search needs) (λ c. search products-fit)
-    check-row-requires returns (λ c. omega arith) (λ c. omega arith) loop-again returns-2)
+    (λ c κs. line-inside _ (c .before .before .if1 .taken) (start (c .before .before .before .before) .pre .long-claims))
+    (λ c. search offset-fits) (λ c. search needs) (λ c. search products-fit) check-row-requires returns (λ c. omega arith) (λ c. omega arith)
+    loop-again returns-2)
