@@ -7,6 +7,7 @@
 --   Sides      the two sides of a row
 --   Vectors    all vectors of a list
 --   Checks     the whole check (C1)
+--   Kinds      the check without a bias, and with one (B3)
 pub mod Lists
 pub mod Shifts
 pub mod Products
@@ -14,3 +15,4 @@ pub mod Rows
 pub mod Sides
 pub mod Vectors
 pub mod Checks
+pub mod Kinds

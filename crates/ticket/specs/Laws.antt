@@ -16,6 +16,7 @@
 --   Lifts         an exact sum, lifted so that it is not negative
 --   Differences   how far the claims are from the exact sums
 --   Decodes       what entries and claims are decoded to
+--   Kinds         settings without a bias, and with one (B1, B3)
 pub mod First
 pub mod Scans
 pub mod Answers
@@ -32,3 +33,4 @@ pub mod Passes
 pub mod Lifts
 pub mod Differences
 pub mod Decodes
+pub mod Kinds
