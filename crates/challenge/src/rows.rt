@@ -180,8 +180,8 @@ fn check_rows(
 }
 
 // One row, of A in a and of the claims in w, against vector number t, x, and its product u with B: caught, where the two sides differ.
-// The shift of the claims is taken off by left, that of the entries by right, in which the product of the bias is too. The products made so far are handed in, and go out in
-// the answer with those of this row.
+// The shift of the claims is taken off by left, that of the entries by right, in which the product of the bias is too. The products
+// made so far are handed in, and go out in the answer with those of this row.
 fn check_row(
     a: &[u32],
     w: &[u32],

@@ -70,8 +70,10 @@ pub extern "C" fn dikdumar_write_bias_ticket(
     bias: &[i32],
     output: &mut [u8],
 ) -> Answer
-    ensures { λ r. ⌜ (r ≡ writing (withBias (setting .setting) (setting .bias)) (now (a .entry)) (now (b .entry)) (now (bias .entry)) (length (now (output .entry))))
-        × (now (output .exit) ≡ outputAfter (withBias (setting .setting) (setting .bias)) (now (a .entry)) (now (b .entry)) (now (bias .entry)) (now (output .entry))) ⌝ }
+    ensures { λ r. ⌜ (r ≡ writing (withBias (setting .setting) (setting .bias)) (now (a .entry)) (now (b .entry)) (now (bias .entry))
+            (length (now (output .entry))))
+        × (now (output .exit) ≡ outputAfter (withBias (setting .setting) (setting .bias)) (now (a .entry)) (now (b .entry)) (now (bias .entry))
+            (now (output .entry))) ⌝ }
 {
     writer::write(setting.biased(), a, b, bias, output)
 }

@@ -10,7 +10,7 @@ use Rattle.algebra.specs.Rules.{sumℤ, matrixProduct, floorDivision}
 use Rattle.ticket.specs.declared.setting.Setting.{Setting}
 use Rattle.ticket.specs.declared.published.PlainSetting.{PlainSetting}
 use Rattle.ticket.specs.declared.Answer.{Answer}
-use Rattle.ticket.specs.Rules.{first, answer, scan, after, firstFailed, sizesWithin, numbersWithin, fits, settingTests, settingNumber, isEntry, shiftedQuotient, parts, part, count, start, records, recordBytes, ticketLength, holder, valueAt, formed, partTests, recordTests, firstRefusal, recordsReading, reading, valueIn, entryA, entryB, quotient, remainder, claim, exactSum, biasedSum, due, plain, withBias, hasBias, biasBound, biasColumns, biasWithin, entryBias}
+use Rattle.ticket.specs.Rules.{first, answer, scan, after, firstFailed, sizesWithin, numbersWithin, fits, settingTests, settingNumber, isEntry, shiftedQuotient, parts, part, count, start, records, recordBytes, ticketLength, holder, valueAt, formed, partTests, recordTests, firstRefusal, recordsReading, reading, valueIn, entryA, entryB, quotient, remainder, claim, exactSum, biasedSum, due, plain, withBias, hasBias, biasBound, biasColumns, biasWithin, mostBiasBound, entryBias}
 use Rattle.ticket.specs.Examples.{trueTicket, biasTicket}
 use Rattle.challenge.specs.Rules.{listNumber, listReading, productB, claimSide, operandSide, balanced, firstRow, verdict, challengeCheck}
 use Rattle.full.specs.Rules.{same, holds, fullVerdict, fullCheck}
@@ -162,7 +162,7 @@ examples =
     -- K with a bias: W = 23 fits, W = 24 does not, nor does W = 2^30, which is no 17
     ∷ limits (biased 23) 0
     ∷ limits (biased 24) 3
-    ∷ limits (biased 1_073_741_824) 3
+    ∷ limits (biased mostBiasBound) 3
     ∷ limits (biased 1_073_741_825) 17
     ∷ starts (biased 23) (0 ∷ 4 ∷ 8 ∷ 12 ∷ 16 ∷ 20 ∷ [])
     ∷ held (biased 23) (3 ∷ 4 ∷ 8 ∷ 11 ∷ 12 ∷ 16 ∷ 19 ∷ []) (0 ∷ 1 ∷ 2 ∷ 2 ∷ 3 ∷ 4 ∷ 4 ∷ [])
@@ -217,8 +217,10 @@ by-rules (floors z d _) = floors z d (floorDivision z d)
 examples-hold : map by-rules examples ≡ examples
 unfolding modulus leastResidue signedEntry sumℤ matrixProduct floorDivision first scan after firstFailed sizesWithin numbersWithin fits
     settingTests isEntry shiftedQuotient parts part count start records ticketLength holder valueAt formed partTests recordTests firstRefusal
-    recordsReading reading valueIn entryA entryB quotient remainder claim exactSum biasedSum hasBias biasBound biasColumns biasWithin entryBias listNumber listReading productB claimSide operandSide
+    recordsReading reading valueIn entryA entryB quotient remainder claim exactSum biasedSum hasBias biasBound biasColumns biasWithin entryBias
+    listNumber listReading productB claimSide operandSide
     balanced firstRow verdict challengeCheck same holds fullVerdict fullCheck joined beyondNumber operandsReading writing quotientOf
-    remainderOf integersOf integerIn recordOf ticketRecord ticketOf minus recordsFrom ticket numbers setting biased under claiming biasedBy biasOf biasCase falseBias trueRemainders trueCase changed
+    remainderOf integersOf integerIn recordOf ticketRecord ticketOf minus recordsFrom ticket numbers setting biased under claiming
+    biasedBy biasOf biasCase falseBias trueRemainders trueCase changed
     trueTicket biasTicket examples each by-rules
 examples-hold = refl

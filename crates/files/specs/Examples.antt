@@ -64,7 +64,8 @@ by-rules (spells n _) = spells n (decimal n)
 examples-hold : map by-rules examples ≡ examples
 unfolding modulus leastResidue signedEntry sumℤ first scan after firstFailed sizesWithin numbersWithin fits settingTests isEntry
     shiftedQuotient parts part count start records ticketLength holder valueAt formed partTests recordTests firstRefusal recordsReading
-    reading valueIn entryA entryB quotient remainder claim hasBias biasBound biasColumns biasWithin entryBias listNumber listReading productB claimSide operandSide balanced firstRow
+    reading valueIn entryA entryB quotient remainder claim hasBias biasBound biasColumns biasWithin entryBias
+    listNumber listReading productB claimSide operandSide balanced firstRow
     verdict challengeCheck wordAt settingOf numbersOf fileCheck digitsOf decimal field lineOf setting trueTicket challenge examples
     by-rules
 examples-hold = refl

@@ -59,7 +59,7 @@ impl Setting {
 
     const MOST_WIDTH: u32 = 30;
 
-    const MOST_BIAS_BOUND: u32 = 1_073_741_824;
+    const MOST_BIAS_BOUND: u32 = 32_768 * 32_768;
 
     // the bytes of the longest ticket without a bias, which is that of the largest sizes
     pub const LONGEST_TICKET: usize = RECORD

@@ -56,7 +56,8 @@ pub fn write(setting: Setting, a: &[i32], b: &[i32], bias: &[i32], output: &mut 
 // processor still divides.
 fn write_ticket(setting: Setting, a: &[i32], b: &[i32], bias: &[i32], output: &mut [u8])
     requires { ⌜ Writable setting (now a) (now b) (now bias) × (ticketLength setting ≤ length (now output)) ⌝ }
-    ensures { λ r. ⌜ now (output .exit) ≡ ticketOf setting (now (a .entry)) (now (b .entry)) (now (bias .entry)) ++ drop (ticketLength setting) (now (output .entry)) ⌝ }
+    ensures { λ r. ⌜ now (output .exit) ≡ ticketOf setting (now (a .entry)) (now (b .entry)) (now (bias .entry))
+        ++ drop (ticketLength setting) (now (output .entry)) ⌝ }
 {
     claims::write_claims(setting, a, b, bias, output);
     let height = setting.rows as u8;

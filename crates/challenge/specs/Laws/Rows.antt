@@ -131,7 +131,8 @@ module _ {G : Setting} {a w d x u : List ℕ} {products : ℕ} (ready : VectorRo
   products-fit = omega (arith, counted, row-inside (rowCost G x u) l, ready .few)
 
   pub offset-fits : right + added < 2 ^ 64
-  offset-fits = rw (right-is, added-is) (omega (arith, offset-small (G .bound) (length u) (λ j. getD u j 0), dot-small d (i * length (take n x)) (take n x), modulus-below))
+  offset-fits = rw (right-is, added-is)
+      (omega (arith, offset-small (G .bound) (length u) (λ j. getD u j 0), dot-small d (i * length (take n x)) (take n x), modulus-below))
 
   pub row-sides : SidesReady r s x u (right + added) (b .products + n)
   row-sides =

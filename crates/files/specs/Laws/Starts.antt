@@ -26,6 +26,7 @@ use Rattle.ticket.specs.Rules.{refusal, after, settingTests, settingNumber, rea
 use Rattle.ticket.specs.Laws.Tests.{hold-or-failed, failed-number}
 use Rattle.ticket.specs.Laws.Limits.{counts, limits-of, without-bias}
 use Rattle.ticket.specs.Laws.Layout.{longestTicket, length-most}
+use Rattle.ticket.specs.Laws.Kinds.{plain-none}
 use Rattle.ticket.specs.Laws.Refusals.{by-setting, refused-number, refused-reading, wrong-length}
 use Rattle.ticket.specs.Laws.Answers.{after-zero}
 use Rattle.ticket.specs.Laws.Passes.{passed-of}
@@ -54,8 +55,8 @@ module _ (s t c : List ℕ) where
   G = settingOf s
 
   file-plain : hasBias G ≡ false
-  unfolding settingOf hasBias
-  file-plain = refl
+  unfolding settingOf
+  file-plain = plain-none _
 
   setting-start : (i : ℕ) → settingBytes < i → fileCheck (take i s) t c ≡ fileCheck s t c
   setting-start i h = by-start (λ l. fileCheck l t c) s h (λ x l. sym (setting-file-refused x t c (λ z. omega arith)))

@@ -8,6 +8,7 @@
 --   plain-tests, bias-tests    the tests of the setting, in order, with the fit
 --   largest-bias-unfit         a bound of 2^30 passes test 17, and never fits
 --   plain-due, bias-due        what a claim is compared with: S, or S + c
+--   sum-added                  the sum with the bias is S and the bias entry
 use Prim.Native.Nat.{ℕ, _+_, _-_, _*_, _^_, _≤_, _<_}
 use native.Mathlib.Decide.{decLt}
 use native.Mathlib.Omega.{arith}
@@ -29,6 +30,10 @@ use Rattle.ticket.specs.Laws.Limits.{Numbers, with-bias, without-bias, l
 pub plain-none : (P : PlainSetting) → hasBias (plain P) ≡ false
 unfolding hasBias
 plain-none P = refl
+
+pub sum-added : (G : Setting) (A B C : ℕ → ℕ → ℤ) (i j : ℕ) → biasedSum G A B C i j ≡ exactSum G A B i j +ℤ C i j
+unfolding biasedSum
+sum-added G A B C i j = refl
 
 pub bias-some : (P : PlainSetting) (W : ℕ) → hasBias (withBias P W) ≡ true
 unfolding hasBias
@@ -126,6 +131,7 @@ largest-bias-unfit G most numbers = (
     | yes l ↦
         let sum = G .inner * (G .bound * G .bound) + biasBound G + G .scale - 1 in
         rw (lt-leb sum (lift G) (omega (arith, most, lift-double numbers, numbers .scale, modulus-below)))
-    | no l ↦ rw (le-ltb (2 ^ G .width * G .scale) modulus (omega arith)) (and-false (leb (G .inner * (G .bound * G .bound) + biasBound G + G .scale - 1) (lift G)))
+    | no l ↦ rw (le-ltb (2 ^ G .width * G .scale) modulus (omega arith))
+      (and-false (leb (G .inner * (G .bound * G .bound) + biasBound G + G .scale - 1) (lift G)))
   ],
 )

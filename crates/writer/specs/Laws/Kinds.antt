@@ -13,8 +13,8 @@ use lib.IntN.{ℤ, pos, _+ℤ_, +ℤ-idr}
 use lib.ListN.{length}
 use Rattle.ticket.specs.declared.published.PlainSetting.{PlainSetting}
 use Rattle.ticket.specs.declared.setting.Setting.{Setting}
-use Rattle.ticket.specs.Rules.{unless, refusal, after, firstRefusal, plain, biasBound, part, partSize, ofA, ofB, ofBias, exactSum, biasedSum}
-use Rattle.ticket.specs.Laws.Kinds.{plain-parts}
+use Rattle.ticket.specs.Rules.{unless, refusal, after, firstRefusal, plain, biasBound, biasColumns, part, partSize, ofA, ofB, ofBias, exactSum}
+use Rattle.ticket.specs.Laws.Kinds.{plain-parts, sum-added}
 use Rattle.ticket.specs.Laws.Scans.{refusal-none, after-passed, after-refused}
 use Rattle.ticket.specs.Laws.Answers.{scan-zero}
 use Rattle.writer.specs.Rules.{beyondNumber, operandsReading, entryOf, sumFor}
@@ -43,5 +43,6 @@ module _ (P : PlainSetting) (A B : List ℤ) where
       rw (eq-eqb 0 (partSize (part G ofBias)) (sym (plain-parts P .without)), alone)
 
   pub plain-sum : (i j : ℕ) → sumFor (plain P) A B [] i j ≡ exactSum (plain P) (entryOf (P .inner) A) (entryOf (P .columns) B) i j
-  unfolding biasedSum
-  plain-sum i j = +ℤ-idr (exactSum G (entryOf (P .inner) A) (entryOf (P .columns) B) i j)
+  plain-sum i j =
+      sum-added G (entryOf (P .inner) A) (entryOf (P .columns) B) (entryOf (biasColumns G) []) i j
+      ∙ +ℤ-idr (exactSum G (entryOf (P .inner) A) (entryOf (P .columns) B) i j)

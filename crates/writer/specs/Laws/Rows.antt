@@ -242,7 +242,8 @@ module _ {G : Setting} {row from quotients remainders : ℕ} {slice line : List 
   pub rows-more : {A B C kept columns : List ℤ} {before output after made : List ℕ} → Writable G A B C
       → Filled (pos 0) slice (length slice) (columnOf (take (from + length slice - from) (drop from A)) 1 0) line
       → Filled (pos 0) kept (G .columns * G .inner) (turnedNumber B (G .inner) (G .columns)) columns → length B ≤ length kept
-      → RowSums line columns old made → BiasAdded C (row * G .columns) made sums → ClaimsWrote G A B C row before output → RowWrote G row sums quotients remainders output after
+      → RowSums line columns old made → BiasAdded C (row * G .columns) made sums → ClaimsWrote G A B C row before output
+      → RowWrote G row sums quotients remainders output after
       → ClaimsWrote G A B C (row + 1) before after
   rows-more {A} {B} {C} {columns = columns} {made = made} writable row-filled filled room summed biased so-far row-wrote =
       let m = G .inner in

@@ -8,4 +8,6 @@ use Rattle.challenge.proofs.rows.row_bias.Tie as tie
 pub row-bias-spec : {M : Type 1} → statement M
 row-bias-spec =
     tie.close
-    (tie.spec (λ c. dot-none _ _ _ (c .if1 .taken)) (λ c. record { fits = product-below 32 (omega arith) (omega (arith, c .before .before .before .pre .vector .short)) }) (λ c κs. search needs) (λ c. search needs) (λ c. c .before .dot-records .ensures))
+    (tie.spec (λ c. dot-none _ _ _ (c .if1 .taken))
+    (λ c. record { fits = product-below 32 (omega arith) (omega (arith, c .before .before .before .pre .vector .short)) })
+    (λ c κs. search needs) (λ c. search needs) (λ c. c .before .dot-records .ensures))

@@ -87,7 +87,8 @@ loop-again c =
       rows-next (at .loop .inv .0) left (sums .before .before .before .before .before .narrow .ensures .long)
           (biased .add-bias .ensures .long ∙ sums .row-sums .ensures .long),
       rows-more (at .loop .inv .0) left (start at .pre .writable) (sums .before .before .before .before .before .narrow .ensures)
-          (at .before .before .before .before .narrow-columns .ensures) (start at .pre .long-columns) (sums .row-sums .ensures) (biased .add-bias .ensures) (at .loop .inv .1)
+          (at .before .before .before .before .narrow-columns .ensures) (start at .pre .long-columns) (sums .row-sums .ensures)
+          (biased .add-bias .ensures) (at .loop .inv .1)
           (c .before .before .write-row .ensures),
     )
 
@@ -104,7 +105,8 @@ write-rows-spec =
     narrow-columns-requires (λ c κs. search needs) (λ c. search needs) (λ c κs. search needs) (λ c. search needs) loop-holds
     (λ c. omega (arith, room c)) (λ c. omega (arith, room c)) (λ c. omega arith) (λ c. omega arith) (λ c. omega (arith, room c)) narrow-requires
     (λ c κs. search needs) (λ c. search needs)
-    (λ c. record { fits = product-below 32 (omega arith) (omega arith) }) add-bias-requires write-row-requires (λ c. omega (arith, room (end c))) (λ c. omega (arith, room (end c)))
+    (λ c. record { fits = product-below 32 (omega arith) (omega arith) }) add-bias-requires write-row-requires
+    (λ c. omega (arith, room (end c))) (λ c. omega (arith, room (end c)))
     (λ c. omega (arith, room (end c))) (λ c. omega (arith, end c .loop-test .taken)) loop-again
     (λ c. c .before .loop .inv .0 .long-line ∙ sym (start (c .before) .pre .long-line)) (λ c. search)
     (λ c. c .before .loop .inv .0 .long-sums ∙ sym (start (c .before) .pre .long-sums)) (λ c. c .before .loop .inv .1 .long) returns)

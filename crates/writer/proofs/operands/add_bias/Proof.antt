@@ -48,5 +48,6 @@ pub add-bias-spec : {M : Type 1} → statement M
 add-bias-spec =
     tie.close
     (tie.spec Inv-loop μ-loop returns (λ c. (omega arith, filled-none)) (λ c. omega (arith, inside c)) (λ c. omega (arith, inside c)) inside
-    (λ c κs. search needs) (λ c. omega arith) (λ c. omega arith) (λ c κs. search needs) (λ c. omega arith) (λ c. omega arith) (λ c. omega arith) (λ c. omega arith)
+    (λ c κs. search needs) (λ c. omega arith) (λ c. omega arith) (λ c κs. search needs)
+    (λ c. omega arith) (λ c. omega arith) (λ c. omega arith) (λ c. omega arith)
     loop-again (λ c. c .before .loop .inv .1 .long) returns-2)

@@ -21,7 +21,8 @@ begun c = c .before .before .before
 returns : tie.Need-returns Inv-loop μ-loop
 returns c =
     let start = c .before .before in
-    sym (beyond-within (start .args .bound) (start .args .number) (start .args .operand .now) (start .args .start) (c .before .all-within .ensures) (c .if1 .taken))
+    sym (beyond-within (start .args .bound) (start .args .number) (start .args .operand .now) (start .args .start)
+        (c .before .all-within .ensures) (c .if1 .taken))
 
 size-is : (c : tie.After-magnitude Inv-loop μ-loop) → let at = c .before .before .before in
     c .magnitude .result ≡ natAbs (getD (begun at .args .operand .now) (at .loop .k) (pos 0))
@@ -33,7 +34,8 @@ returns-2 : tie.Need-returns-2 Inv-loop μ-loop
 returns-2 c =
     let at = c .before .before .before .before in
     let start = begun at in
-    sym (beyond-at (start .args .bound) (start .args .number) (start .args .operand .now) (start .args .start) (start .pre .1) (c .before .before .before .loop-test .taken)
+    sym (beyond-at (start .args .bound) (start .args .number) (start .args .operand .now) (start .args .start)
+        (start .pre .1) (c .before .before .before .loop-test .taken)
     (at .loop .inv .1) (omega (arith, size-is (c .before), c .if2 .taken)))
 
 loop-again : tie.Need-loop-again Inv-loop μ-loop
@@ -45,7 +47,8 @@ loop-again c =
 returns-3 : tie.Need-returns-3 Inv-loop μ-loop
 returns-3 c =
     let start = begun (c .before) in
-    sym (beyond-none (start .args .bound) (start .args .number) (start .args .operand .now) (start .args .start) (λ k l. c .before .loop .inv .1 k (omega arith)))
+    sym (beyond-none (start .args .bound) (start .args .number) (start .args .operand .now) (start .args .start)
+        (λ k l. c .before .loop .inv .1 k (omega arith)))
 
 pub first-beyond-spec : {M : Type 1} → statement M
 first-beyond-spec =
