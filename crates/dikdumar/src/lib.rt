@@ -71,9 +71,9 @@ pub extern "C" fn dikdumar_write_bias_ticket(
     output: &mut [u8],
 ) -> Answer
     ensures { λ r. ⌜ (r ≡ writing (withBias (setting .setting) (setting .bias)) (now (a .entry)) (now (b .entry)) (now (bias .entry))
-            (length (now (output .entry))))
+        (length (now (output .entry))))
         × (now (output .exit) ≡ outputAfter (withBias (setting .setting) (setting .bias)) (now (a .entry)) (now (b .entry)) (now (bias .entry))
-            (now (output .entry))) ⌝ }
+        (now (output .entry))) ⌝ }
 {
     writer::write(setting.biased(), a, b, bias, output)
 }

@@ -48,7 +48,7 @@ module _ (G : Setting) (A B C : List ℤ) where
     answered-entries s long =
         ⊎-elim
         (λ z. let within : (k : ℕ) → k < length (A ++ B) → natAbs (getD (A ++ B) k (pos 0)) ≤ G .bound =
-                λ k l. within-of (G .bound) 14 (A ++ B) (omega arith) k (z k l) in
+        λ k l. within-of (G .bound) 14 (A ++ B) (omega arith) k (z k l) in
         ⊎-elim
         (λ y. answered-output (writable G A B C s long within (λ k l. within-of (biasBound G) 18 C (omega arith) k (y k l))))
         (λ o. (

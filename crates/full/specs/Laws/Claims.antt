@@ -102,7 +102,7 @@ module _ {G : Setting} {t : List ℕ} (passed : Passed G t) where
         (omega (arith, row-inside (G .inner) m, holding .columns-long)) (λ k h. holding .row i k l h) (λ k h. holding .column k j h m) in
         let sum : x ≡ leastResidue (2 ^ 32) (P +ℤ pos (lift G)) =
         rw exact (sym (residue-sum (2 ^ 32) word P (pos (lift G))
-          ∙ rw (residue-of-residue (2 ^ 32) word (lift G) (omega (arith, lift-small (passed .numbers) (passed .fitted), modulus-below))))) in
+        ∙ rw (residue-of-residue (2 ^ 32) word (lift G) (omega (arith, lift-small (passed .numbers) (passed .fitted), modulus-below))))) in
         let due-is = biasedSum-is G (entryA G t) (entryB G t) (entryBias G t) i j in
         let close : natAbs (C -ℤ (P +ℤ c)) < 2 ^ 32 = omega (arith, rw due-is at (claims-close passed i j l m), modulus-below) in
         let decides = lifted-decides (2 ^ 32) word (lift G) P C c close sum (holding .claimed .each i j l m) in

@@ -310,7 +310,7 @@ module _ {G : Setting} {t : List ℕ} (passed : Passed G t) where
           let minus = negated-word v (valid passed ofBias i j l (rw wide m) .below) in
           less .each k (omega (arith, h .0, ap (λ n. G .rows * n) wide, claims .long, digits-lt l m))
           ∙ rw (value, minus, bias-entry G t i j there, ← lifted) (sym (residue-sum (2 ^ 32) word C (pos 0 -ℤ signedEntry modulus v))
-            ∙ ap (leastResidue (2 ^ 32)) (taken C (signedEntry modulus v)))
+          ∙ ap (leastResidue (2 ^ 32)) (taken C (signedEntry modulus v)))
         where
           taken : (a b : ℤ) → a +ℤ (pos 0 -ℤ b) ≡ a -ℤ b
           taken a b =
@@ -324,7 +324,7 @@ module _ {G : Setting} {t : List ℕ} (passed : Passed G t) where
           let h = decodable passed ofBias d-is in
           less .rest k (omega (arith, h .0, ap (λ n. G .rows * n) (without-bias G none .1)))
           ∙ rw (no-bias-entry G t i j none) (sym lifted
-            ∙ ap (leastResidue (2 ^ 32)) (equal-of-parts C (C -ℤ pos 0) (omega (arith, parts-difference C (pos 0)))))
+          ∙ ap (leastResidue (2 ^ 32)) (equal-of-parts C (C -ℤ pos 0) (omega (arith, parts-difference C (pos 0)))))
 
     pub claims-less : SumClaims G t y
     claims-less =

@@ -132,6 +132,6 @@ largest-bias-unfit G most numbers = (
         let sum = G .inner * (G .bound * G .bound) + biasBound G + G .scale - 1 in
         rw (lt-leb sum (lift G) (omega (arith, most, lift-double numbers, numbers .scale, modulus-below)))
     | no l ↦ rw (le-ltb (2 ^ G .width * G .scale) modulus (omega arith))
-      (and-false (leb (G .inner * (G .bound * G .bound) + biasBound G + G .scale - 1) (lift G)))
+        (and-false (leb (G .inner * (G .bound * G .bound) + biasBound G + G .scale - 1) (lift G)))
   ],
 )

@@ -22,7 +22,7 @@ returns : tie.Need-returns Inv-loop μ-loop
 returns c =
     let start = c .before .before in
     sym (beyond-within (start .args .bound) (start .args .number) (start .args .operand .now) (start .args .start)
-        (c .before .all-within .ensures) (c .if1 .taken))
+    (c .before .all-within .ensures) (c .if1 .taken))
 
 size-is : (c : tie.After-magnitude Inv-loop μ-loop) → let at = c .before .before .before in
     c .magnitude .result ≡ natAbs (getD (begun at .args .operand .now) (at .loop .k) (pos 0))
@@ -35,7 +35,7 @@ returns-2 c =
     let at = c .before .before .before .before in
     let start = begun at in
     sym (beyond-at (start .args .bound) (start .args .number) (start .args .operand .now) (start .args .start)
-        (start .pre .1) (c .before .before .before .loop-test .taken)
+    (start .pre .1) (c .before .before .before .loop-test .taken)
     (at .loop .inv .1) (omega (arith, size-is (c .before), c .if2 .taken)))
 
 loop-again : tie.Need-loop-again Inv-loop μ-loop
@@ -48,7 +48,7 @@ returns-3 : tie.Need-returns-3 Inv-loop μ-loop
 returns-3 c =
     let start = begun (c .before) in
     sym (beyond-none (start .args .bound) (start .args .number) (start .args .operand .now) (start .args .start)
-        (λ k l. c .before .loop .inv .1 k (omega arith)))
+    (λ k l. c .before .loop .inv .1 k (omega arith)))
 
 pub first-beyond-spec : {M : Type 1} → statement M
 first-beyond-spec =
