@@ -2,7 +2,7 @@
 ghost use mathlib.Core.Path.{_≡_};
 ghost use Prim.Native.Nat.{_+_, _*_, _^_, _≤_, _<_};
 ghost use lib.ListN.{length};
-ghost use Rattle.ticket.specs.Rules.{reading, recordBytes, records, part, recordNumber, firstRefusal, formed};
+ghost use Rattle.ticket.specs.Rules.{reading, recordBytes, records, part, recordNumber, firstRefusal, formed, halfRange};
 ghost use Rattle.residue.specs.Rules.{modulus};
 ghost use Rattle.ticket.specs.Laws.Limits.{Within};
 ghost use Rattle.ticket.specs.Laws.All.{all};
@@ -36,7 +36,8 @@ struct Form {
 pub fn read(setting: Setting, ticket: &[u8]) -> Answer
     ensures { λ r. ⌜ r ≡ reading setting (now (ticket .entry)) ⌝ }
 {
-    let number = setting.number();
+    let half = setting.half();
+    let number = setting.number_of(half);
     if number != 0 {
         return Answer {
             number,
@@ -53,19 +54,19 @@ pub fn read(setting: Setting, ticket: &[u8]) -> Answer
             products: 0,
         };
     }
-    read_records(setting, ticket)
+    read_records(setting, ticket, half)
 }
 
 // The answer of the tests of the records, where setting and length pass theirs: that of the first part that does not pass. A part
 // starts where the one before it ends.
-fn read_records(setting: Setting, ticket: &[u8]) -> Answer
-    requires { ⌜ ReadReady setting (now ticket) ⌝ }
+fn read_records(setting: Setting, ticket: &[u8], half: Residue) -> Answer
+    requires { ⌜ ReadReady setting (now ticket) × (half .0 ≡ halfRange setting) ⌝ }
     ensures { λ r. ⌜ r ≡ firstRefusal 0 (records setting) (recordNumber setting (now (ticket .entry))) ⌝ }
 {
     let mut start: usize = 0;
     let mut which: u32 = 0;
     while which < PartNumber::COUNT {
-        let form = form_of(setting, PartNumber(which));
+        let form = form_of(setting, PartNumber(which), half);
         let answer = read_part(form, ticket, start);
         if answer.number != 0 {
             return answer;
@@ -94,9 +95,9 @@ fn read_part(form: Form, ticket: &[u8], start: usize) -> Answer
     first_refusal(records, form, start as u32)
 }
 
-// What the records of a part have to be.
-fn form_of(setting: Setting, which: PartNumber) -> Form
-    requires { ⌜ Within setting × (which .0 < 5) ⌝ }
+// What the records of a part have to be; half of the quotients' range is worked out once for all parts.
+fn form_of(setting: Setting, which: PartNumber, half: Residue) -> Form
+    requires { ⌜ Within setting × (which .0 < 5) × (half .0 ≡ halfRange setting) ⌝ }
     ensures { λ r. ⌜ MakesTests r (part setting (which .0)) ⌝ }
 {
     let part = which.0;
@@ -114,13 +115,12 @@ fn form_of(setting: Setting, which: PartNumber) -> Form
         return entries_form(5, rows, width, setting.largest_bias(), 18);
     }
     if part == 3 {
-        let half = setting.half().0;
         return Form {
             kind: 3,
             rows,
             columns,
-            shift: half,
-            limit: 2 * half,
+            shift: half.0,
+            limit: 2 * half.0,
             outside: 8,
         };
     }
@@ -149,7 +149,7 @@ fn entries_form(kind: u8, rows: u8, columns: u8, bound: u32, outside: u32) -> Fo
     }
 }
 
-// Whether all records of a part pass.
+// Whether all records of a part pass: row after row, up to the first that does not.
 fn passes(records: &[u8], form: Form) -> bool
     requires { ⌜ Holds (now records) form ⌝ }
     ensures { λ r. ⌜ r ≡ all (form .rows * form .columns) (passing (now (records .entry)) form) ⌝ }
@@ -157,8 +157,8 @@ fn passes(records: &[u8], form: Form) -> bool
     let mut ok = true;
     let mut row: u8 = 0;
     let mut start: usize = 0;
-    while row < form.rows {
-        ok = ok & row_passes(records, form, start, row);
+    while ok && (row < form.rows) {
+        ok = row_passes(records, form, start, row);
         start += form.columns as usize;
         row += 1;
     }

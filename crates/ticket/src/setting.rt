@@ -71,13 +71,21 @@ impl Setting {
     pub fn number(self) -> u32
         ensures { λ r. ⌜ r ≡ settingNumber self ⌝ }
     {
+        self.number_of(self.half())
+    }
+
+    // The same, where half of the quotients' range is there already.
+    pub(crate) fn number_of(self, half: Residue) -> u32
+        requires { ⌜ half .0 ≡ halfRange (clamped self) ⌝ }
+        ensures { λ r. ⌜ r ≡ settingNumber self ⌝ }
+    {
         if !self.sizes_within() {
             return 1;
         }
         if !self.numbers_within() {
             return 2;
         }
-        unless(self.bias_within(), 17, unless(self.fits(), 3, 0))
+        unless(self.bias_within(), 17, unless(self.fits(half), 3, 0))
     }
 
     // The largest absolute value of a bias entry; 0 where there is no bias.
@@ -228,14 +236,14 @@ impl Setting {
         self.largest_bias() <= Setting::MOST_BIAS_BOUND
     }
 
-    fn fits(self) -> bool
-        requires { ⌜ Sizes self × Numbers self ⌝ }
+    fn fits(self, half: Residue) -> bool
+        requires { ⌜ Sizes self × Numbers self × (half .0 ≡ halfRange (clamped self)) ⌝ }
         ensures { λ r. ⌜ r ≡ fits self ⌝ }
     {
         let bound = self.bound as u64;
         let sum = (self.inner as u64) * (bound * bound);
         let reach = sum + (self.largest_bias() as u64) + (self.scale as u64) - 1;
-        let lift = self.lift();
+        let lift = self.lift_of(half);
         (reach <= lift) & (2 * lift < Residue::modulus() as u64)
     }
 }

@@ -6,13 +6,14 @@
 --   all-at       where the test holds everywhere, it holds at each place
 --   all-cong     equal tests
 --   all-split    the first m places, then the n after them
-use Prim.Native.Nat.{ℕ, zero, suc, _+_, _<_}
+--   all-fails    where it fails at one of the first places, it does at one of all
+use Prim.Native.Nat.{ℕ, zero, suc, _+_, _-_, _≤_, _<_}
 use native.Mathlib.Decide.{ℕ-discrete}
 use native.Mathlib.Nat.{add-zero, add-suc}
 use native.Mathlib.Numerals.{add-one}
 use native.Mathlib.Omega.{arith}
 use mathlib.Core.Path.{_≡_, refl, sym, ap, _∙_}
-use mathlib.Core.Bool.{Bool, true, _&&_, and-assoc, and-true}
+use mathlib.Core.Bool.{Bool, true, false, _&&_, and-assoc, and-true}
 use Rattle.ticket.specs.Laws.Limits.{both}
 
 unfoldable pub all : ℕ → (ℕ → Bool) → Bool
@@ -45,3 +46,8 @@ pub all-split : (m n : ℕ) (f : ℕ → Bool) → all (m + n) f ≡ (all m f &&
 unfolding all
 all-split m zero f = rw (add-zero m) (sym (and-true (all m f)))
 all-split m (suc n) f = rw (add-suc m n, all-split m n f) (and-assoc (all m f) (all n (λ k. f (m + k))) (f (m + n)))
+
+pub all-fails : {m n : ℕ} (f : ℕ → Bool) → m ≤ n → all m f ≡ false → all n f ≡ false
+all-fails {m} {n} f l e =
+    let rest : m + (n - m) ≡ n = omega arith in
+    rw (← rest, all-split m (n - m) f, e)

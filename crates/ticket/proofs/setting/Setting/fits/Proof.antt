@@ -6,7 +6,7 @@ use lib.Dec.{leb, ltb}
 use Rattle.residue.specs.Rules.{modulus}
 use borrow.Author.Needs.{needs}
 use Rattle.ticket.specs.Rules.{lift, fits}
-use Rattle.ticket.specs.Laws.Limits.{FitProducts, fit-products, clamped-same, lift-double}
+use Rattle.ticket.specs.Laws.Limits.{FitProducts, fit-products, clamped, clamped-same, lift-double}
 use Rattle.ticket.proofs.setting.Setting.fits.Statement.{statement}
 use Rattle.ticket.proofs.setting.Setting.fits.Tie as tie
 
@@ -16,8 +16,10 @@ small c = fit-products (c .pre .0) (c .pre .1)
 abbrev start : tie.After-largest-bias → tie.Start
 start c = c .before .before .before
 
-lifted : (c : tie.After-lift) → c .lift .result ≡ lift (start (c .before .before) .args .self)
-lifted c = c .lift .ensures ∙ ap lift (clamped-same (start (c .before .before) .pre .0) (start (c .before .before) .pre .1))
+lifted : (c : tie.After-lift-of) → c .lift-of .result ≡ lift (start (c .before .before) .args .self)
+lifted c =
+    let start = start (c .before .before) in
+    c .lift-of .ensures ∙ ap (λ h. h * clamped (start .args .self) .scale) (start .pre .2) ∙ ap lift (clamped-same (start .pre .0) (start .pre .1))
 
 returns : tie.Need-returns
 unfolding fits

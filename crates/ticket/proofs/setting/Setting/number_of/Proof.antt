@@ -4,8 +4,8 @@ use borrow.Author.Needs.{needs}
 use borrow.Author.Tests.{not-true, not-false}
 use Rattle.ticket.specs.Rules.{sizesWithin, numbersWithin, settingTests, firstFailed}
 use Rattle.ticket.specs.Laws.Limits.{sizes-of, numbers-of}
-use Rattle.ticket.proofs.setting.Setting.number.Statement.{statement}
-use Rattle.ticket.proofs.setting.Setting.number.Tie as tie
+use Rattle.ticket.proofs.setting.Setting.number_of.Statement.{statement}
+use Rattle.ticket.proofs.setting.Setting.number_of.Tie as tie
 
 sizes : (c : tie.Else1) → sizesWithin (c .before .before .args .self) ≡ true
 sizes c = sym (c .before .sizes-within .ensures) ∙ not-false _ (c .if1 .left)
@@ -30,9 +30,9 @@ returns-3 c =
     c .unless2 .ensures
     ∙ rw (sizes (two .before .before), numbers two, bias .bias-within .ensures, c .before .unless .ensures, c .before .before .fits2 .ensures)
 
-pub number-spec : {M : Type 1} → statement M
-number-spec =
+pub number-of-spec : {M : Type 1} → statement M
+number-of-spec =
     tie.close
     (tie.spec (λ c κs. search needs) returns (λ c κs. search needs) returns-2
-    (λ c κs. search needs) (λ c κs. (sizes-of _ (sizes (c .before .before .before)), numbers-of _ (numbers (c .before)))) (λ c κs. search needs)
+    (λ c κs. search needs) (λ c κs. (sizes-of _ (sizes (c .before .before .before)), numbers-of _ (numbers (c .before)), c .before .before .before .before .before .pre)) (λ c κs. search needs)
     (λ c κs. search needs) returns-3)
