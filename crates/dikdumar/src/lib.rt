@@ -3,7 +3,7 @@
 ghost use mathlib.Core.Path.{_≡_};
 ghost use mathlib.Core.List.{[]};
 ghost use lib.ListN.{length};
-ghost use Rattle.ticket.specs.Rules.{plain, withBias};
+ghost use Rattle.ticket.specs.Rules.{numbered, plain, withBias};
 ghost use Rattle.challenge.specs.Rules.{challengeCheck};
 ghost use Rattle.full.specs.Rules.{fullCheck};
 ghost use Rattle.writer.specs.Rules.{outputAfter, writing};
@@ -28,7 +28,7 @@ pub extern "C" fn dikdumar_challenge_check(
 pub extern "C" fn dikdumar_full_check(setting: PlainSetting, ticket: &[u8]) -> Answer
     ensures { λ r. ⌜ r ≡ fullCheck (plain setting) (now (ticket .entry)) ⌝ }
 {
-    full::check(setting.plain(), ticket)
+    full_check(setting, 0, 0, ticket)
 }
 
 #[no_mangle]
@@ -41,7 +41,7 @@ pub extern "C" fn dikdumar_write_ticket(
     ensures { λ r. ⌜ (r ≡ writing (plain setting) (now (a .entry)) (now (b .entry)) [] (length (now (output .entry))))
         × (now (output .exit) ≡ outputAfter (plain setting) (now (a .entry)) (now (b .entry)) [] (now (output .entry))) ⌝ }
 {
-    writer::write(setting.plain(), a, b, &a[..0], output)
+    write(setting, 0, 0, a, b, &a[..0], output)
 }
 
 #[no_mangle]
@@ -59,7 +59,7 @@ pub extern "C" fn dikdumar_bias_challenge_check(
 pub extern "C" fn dikdumar_bias_full_check(setting: BiasSetting, ticket: &[u8]) -> Answer
     ensures { λ r. ⌜ r ≡ fullCheck (withBias (setting .setting) (setting .bias)) (now (ticket .entry)) ⌝ }
 {
-    full::check(setting.biased(), ticket)
+    full_check(setting.setting, 1, setting.bias, ticket)
 }
 
 #[no_mangle]
@@ -75,5 +75,29 @@ pub extern "C" fn dikdumar_write_bias_ticket(
         × (now (output .exit) ≡ outputAfter (withBias (setting .setting) (setting .bias)) (now (a .entry)) (now (b .entry)) (now (bias .entry))
         (now (output .entry))) ⌝ }
 {
-    writer::write(setting.biased(), a, b, bias, output)
+    write(setting.setting, 1, setting.bias, a, b, bias, output)
+}
+
+// The full check of both kinds. What the caller lent is handed on as it came, and the setting made here, so that it is not copied on
+// the way.
+fn full_check(setting: PlainSetting, biased: u32, bias: u32, ticket: &[u8]) -> Answer
+    ensures { λ r. ⌜ r ≡ fullCheck (numbered setting biased bias) (now (ticket .entry)) ⌝ }
+{
+    full::check(setting.numbered(biased, bias), &ticket[0..])
+}
+
+// The writer of both kinds, likewise.
+fn write(
+    setting: PlainSetting,
+    biased: u32,
+    bound: u32,
+    a: &[i32],
+    b: &[i32],
+    bias: &[i32],
+    output: &mut [u8],
+) -> Answer
+    ensures { λ r. ⌜ (r ≡ writing (numbered setting biased bound) (now (a .entry)) (now (b .entry)) (now (bias .entry)) (length (now (output .entry))))
+        × (now (output .exit) ≡ outputAfter (numbered setting biased bound) (now (a .entry)) (now (b .entry)) (now (bias .entry)) (now (output .entry))) ⌝ }
+{
+    writer::write(setting.numbered(biased, bound), a, b, bias, output)
 }

@@ -35,7 +35,8 @@ impl PlainSetting {
         self.numbered(0, 0)
     }
 
-    pub(crate) fn numbered(self, biased: u32, bias: u32) -> Setting
+    // The setting with or without a bias, and with its bound.
+    pub fn numbered(self, biased: u32, bias: u32) -> Setting
         ensures { λ r. ⌜ r ≡ numbered self biased bias ⌝ }
     {
         Setting {

@@ -31,8 +31,7 @@ returns-2 c = sym (refused-reading _ _ (by-length (holds (c .before .before)) (�
 
 read-records-requires : tie.Need-read-records-requires
 read-records-requires c κs =
-    let limits = limits-of _ (holds (c .before .before)) in
-    (
+    let limits = limits-of _ (holds (c .before .before)) in (
       record { counts = counts (limits .sizes); within = limits; long = c .if2 .left ∙ long (c .before) },
       half (c .before .before) ∙ ap halfRange (clamped-same (limits .sizes) (limits .numbers)),
     )
