@@ -22,6 +22,12 @@ unfolding settingTests firstFailed
 returns-2 c =
     rw (sizes (c .before .before), ← c .before .numbers-within .ensures, not-true (c .before .numbers-within .result) (c .if2 .taken))
 
+fits-requires : tie.Need-fits-requires
+fits-requires c κs =
+    let two = c .before in
+    let one = two .before .before in
+    (sizes-of _ (sizes one), numbers-of _ (numbers two), one .before .before .pre)
+
 returns-3 : tie.Need-returns-3
 unfolding settingTests firstFailed
 returns-3 c =
@@ -33,6 +39,5 @@ returns-3 c =
 pub number-of-spec : {M : Type 1} → statement M
 number-of-spec =
     tie.close
-    (tie.spec (λ c κs. search needs) returns (λ c κs. search needs) returns-2
-    (λ c κs. search needs) (λ c κs. (sizes-of _ (sizes (c .before .before .before)), numbers-of _ (numbers (c .before)), c .before .before .before .before .before .pre)) (λ c κs. search needs)
+    (tie.spec (λ c κs. search needs) returns (λ c κs. search needs) returns-2 (λ c κs. search needs) fits-requires (λ c κs. search needs)
     (λ c κs. search needs) returns-3)
