@@ -6,7 +6,8 @@
 //! installed, FLINT: of the challenge check, Freivalds' check of matrices that are
 //! in memory, with nothing read or tested, and of the full check, the product.
 //! Parts of calls are set beside kernels, loops that do the same work as fast as
-//! every x86-64 processor can.
+//! every x86-64 processor can. Calls on bias tickets are set beside those on plain
+//! tickets of the same operands.
 //!
 //! All are timed in turns, so that whatever else the machine does falls on all;
 //! as it can only lengthen a time, the least time over the rounds is taken.
@@ -24,8 +25,8 @@ use std::cell::RefCell;
 use std::hint::black_box;
 use std::time::{Duration, Instant};
 
-use dikdumar::{Answer, Setting};
-use table::{Call, Part, Table};
+use dikdumar::{Answer, BiasSetting, Setting};
+use table::{Bias, Call, Part, Table};
 
 /// How long the rounds go on.
 const ROUNDS: Duration = Duration::from_secs(30);
@@ -100,6 +101,10 @@ struct Input {
     ticket: Vec<u8>,
     false_ticket: Vec<u8>,
     list: Vec<u32>,
+    /// A bias of every size up to its bound, and the true ticket with it.
+    bias_setting: BiasSetting,
+    bias: Vec<i32>,
+    bias_ticket: Vec<u8>,
     #[cfg(flint)]
     flint: [RefCell<flint::Matrices>; 2],
 }
@@ -140,8 +145,16 @@ impl Input {
         let mut false_ticket = ticket.clone();
         let remainder = ticket.len() - 8 * (rows * columns) as usize + 4;
         false_ticket[remainder] ^= 1;
-        Input {
+        let bias_setting = BiasSetting {
             setting: Setting::from(setting.numbers()),
+            bias_bound: 1000,
+        };
+        let bias = entries(rows * columns, rows * inner + inner * columns);
+        let mut bias_ticket = vec![0; ticket.len() + 8 * (rows * columns) as usize];
+        let written = dikdumar::write_bias_ticket(bias_setting, &a, &b, &bias, &mut bias_ticket);
+        assert_eq!(written.number, 0);
+        Input {
+            setting: bias_setting.setting,
             #[cfg(flint)]
             flint: VECTORS.map(|vectors| {
                 let [a, b, c] = [&a, &b, &sums].map(|matrix| -> Vec<u32> {
@@ -160,6 +173,9 @@ impl Input {
             ticket,
             false_ticket,
             list,
+            bias_setting,
+            bias,
+            bias_ticket,
         }
     }
 
@@ -252,6 +268,14 @@ struct Plan {
     full_check: Vec<Number>,
     write_ticket: Vec<Number>,
     parts: Option<Parts>,
+    bias: BiasCalls,
+}
+
+/// The library's calls on a bias ticket, with the products that each counts.
+struct BiasCalls {
+    challenge_check: [(Number, u32); 2],
+    full_check: (Number, u32),
+    write_ticket: (Number, u32),
 }
 
 /// What tells the times of the library's parts, and the kernels.
@@ -317,6 +341,7 @@ impl Plan {
             full_check,
             write_ticket,
             parts: kernels::fit(input.setting).then(|| Parts::new(input, clock)),
+            bias: BiasCalls::new(input, clock),
         }
     }
 
@@ -337,6 +362,7 @@ impl Plan {
         if let Some(parts) = &self.parts {
             parts.lines(self, input, clock, table);
         }
+        self.bias.lines(self, input, clock, table);
     }
 }
 
@@ -351,6 +377,71 @@ fn challenge<'a>(
 ) -> Number {
     assert_eq!((program.challenge_check)(setting, ticket, list).number, number);
     clock.add(move || (program.challenge_check)(black_box(setting), black_box(ticket), black_box(list)))
+}
+
+impl BiasCalls {
+    fn new<'a>(input: &'a Input, clock: &mut Clock<'a>) -> BiasCalls {
+        let challenge_check = VECTORS.map(|vectors| {
+            let (setting, list) = input.challenge(vectors);
+            let setting = BiasSetting {
+                setting,
+                ..input.bias_setting
+            };
+            let ticket = &input.bias_ticket;
+            let call = move || dikdumar::bias_challenge_check(black_box(setting), black_box(ticket), black_box(list));
+            (clock.add(call), accepted(call()))
+        });
+        let setting = input.bias_setting;
+        let full_check = move || dikdumar::bias_full_check(black_box(setting), black_box(&input.bias_ticket));
+        let mut output = vec![0; input.bias_ticket.len()];
+        let mut write_ticket = move || {
+            let (a, b, bias) = (black_box(&input.a), black_box(&input.b), black_box(&input.bias));
+            dikdumar::write_bias_ticket(black_box(setting), a, b, bias, black_box(&mut output))
+        };
+        let written = accepted(write_ticket());
+        BiasCalls {
+            challenge_check,
+            full_check: (clock.add(full_check), accepted(full_check())),
+            write_ticket: (clock.add(write_ticket), written),
+        }
+    }
+
+    fn lines(&self, plan: &Plan, input: &Input, clock: &Clock, table: &mut Table) {
+        let mut add =
+            |vectors: Option<u32>, name, (number, products): (Number, u32), plain: &[Number], counted: u32| {
+                table.bias.push(Bias {
+                    size: input.size(),
+                    vectors,
+                    name,
+                    time: clock.nanoseconds(number),
+                    plain: clock.nanoseconds(plain[0]),
+                    products: [products, counted],
+                });
+            };
+        let Setting {
+            rows, inner, columns, ..
+        } = input.setting;
+        let sums = rows * inner * columns;
+        for (index, vectors) in VECTORS.into_iter().enumerate() {
+            let counted = vectors * (inner * columns + rows * columns + rows * inner);
+            let plain = &plan.challenge_check[index];
+            add(
+                Some(vectors),
+                "challenge check",
+                self.challenge_check[index],
+                plain,
+                counted,
+            );
+        }
+        add(None, "full check", self.full_check, &plan.full_check, sums);
+        add(None, "writer", self.write_ticket, &plan.write_ticket, sums);
+    }
+}
+
+/// The products of an answer whose number is 0.
+fn accepted(answer: Answer) -> u32 {
+    assert_eq!(answer.number, 0);
+    answer.products
 }
 
 impl Parts {

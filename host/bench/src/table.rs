@@ -13,6 +13,7 @@ const OF_KERNEL: f64 = 1.1;
 pub struct Table {
     pub calls: Vec<Call>,
     pub parts: Vec<Part>,
+    pub bias: Vec<Bias>,
 }
 
 /// A whole call.
@@ -46,6 +47,26 @@ impl Part {
     }
 }
 
+/// A call on a bias ticket.
+pub struct Bias {
+    pub size: String,
+    pub vectors: Option<u32>,
+    pub name: &'static str,
+    /// Nanoseconds, and those of the call on a plain ticket.
+    pub time: f64,
+    pub plain: f64,
+    /// The products counted, and those of the call on a plain ticket.
+    pub products: [u32; 2],
+}
+
+impl Bias {
+    /// What a product costs, over that of the plain ticket.
+    fn ratio(&self) -> f64 {
+        let [products, plain] = self.products.map(f64::from);
+        (self.time / products) / (self.plain / plain)
+    }
+}
+
 impl Display for Table {
     fn fmt(&self, f: &mut Formatter) -> Result {
         write!(f, "| Size | s | Call | Library, µs |")?;
@@ -71,6 +92,18 @@ impl Display for Table {
             let kernel = shown(part.kernel.map(|kernel| kernel / 1000.0), 3);
             let ratio = shown(part.ratio(), 2);
             writeln!(f, "| {} | {} | {time:.3} | {kernel} | {ratio} |", part.size, part.name)?;
+        }
+        writeln!(f)?;
+        writeln!(
+            f,
+            "| Size | s | Call | Bias ticket, µs | Bias / plain | Bias / plain, a product |"
+        )?;
+        writeln!(f, "|---|---|---|---:|---:|---:|")?;
+        for call in &self.bias {
+            let vectors = call.vectors.map_or(String::new(), |vectors| vectors.to_string());
+            let (time, whole, product) = (call.time / 1000.0, call.time / call.plain, call.ratio());
+            write!(f, "| {} | {vectors} | {} |", call.size, call.name)?;
+            writeln!(f, " {time:.3} | {whole:.2} | {product:.2} |")?;
         }
 
         writeln!(f)?;
