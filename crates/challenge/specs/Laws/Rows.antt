@@ -2,18 +2,18 @@
 -- claims are decoded to, d the bytes of the bias.
 --
 --   sidesEqual m n a w x u    w times x, with the offset m, is a times u, with the offset n
---   rowAnswer m n a w x u τ i q   the answer of row i for vector number τ after q products, by these two sides
+--   rowAnswer m n a w d x z u τ i q   the answer of row i for vector number τ after q products, by these two sides, with row i of the bias
+--                             times z added to n
 --   row-caught, row-balanced  an answer by the comparison of two numbers, as the code makes it
 --   biasVector G x            what the bias is multiplied with: the vector, nothing where there is no bias
 --   rowAgrees G a w d x u i   row i of w times x, with the lift taken off, is row i of a times u, with the bound taken off, and row i of
 --                             the bias times x
 --   rowCost G x u             how many products a row takes
 --   rowSteps G a w d x u τ q  the rows one after the other, for vector number τ after q products
---   VectorRowsReady G a w d x u q   the rows can be worked through after q products
---   SidesReady a w x u o q    so can one row
+--   VectorRowsReady G a w d x u s q   the rows can be worked through after q products, s being the lift
+--   SidesReady a w d x z u i n q   so can row i
 --   line-inside               a row is within its list
---   bias-within, bias-ready   the bias is no wider than the vector, and each row of it can be multiplied
---   products-fit, offset-fits   the products up to a row, and what is added to a row of A times u, are not large
+--   bias-within               the bias is no wider than the vector
 --   row-sides                 each row is ready, those before it having passed
 --   row-step                  and its answer is that of its step
 use Prim.Native.Nat.{ℕ, _+_, _*_, _≤_, _<_, _^_}
@@ -39,10 +39,10 @@ use Rattle.challenge.specs.Laws.Products.{rowsTimes, dot-small, dotWith,
 abbrev pub sidesEqual : ℕ → ℕ → List ℕ → List ℕ → List ℕ → List ℕ → Bool
 sidesEqual left right a w x u = eqb (dotWith left w x) (dotWith right a u)
 
-abbrev pub rowAnswer : ℕ → ℕ → List ℕ → List ℕ → List ℕ → List ℕ → ℕ → ℕ → ℕ → Answer
-rowAnswer left right a w x u τ i products =
-    let made = products + length x + length u in
-    unless (sidesEqual left right a w x u) (answer 12 τ i made) (answer 0 0 0 made)
+abbrev pub rowAnswer : ℕ → ℕ → List ℕ → List ℕ → List ℕ → List ℕ → List ℕ → List ℕ → ℕ → ℕ → ℕ → Answer
+rowAnswer left right a w d x z u τ i products =
+    let made = products + length x + length u + length z in
+    unless (sidesEqual left (right + rowsTimes d z i) a w x u) (answer 12 τ i made) (answer 0 0 0 made)
 
 module _ {c d m n : ℕ} (c-is : c ≡ m) (d-is : d ≡ n) (caught passed : Answer) where
   pub row-caught : (c ≡ d → ⊥) → caught ≡ unless (eqb m n) caught passed
@@ -73,8 +73,9 @@ rowSteps G a w d x u τ products =
       passed = λ i. refl;
     }
 
-pub record VectorRowsReady (G : Setting) (a w d x u : List ℕ) (products : ℕ) : Type 0 where
-  pub lift-below : lift (clamped G) ≤ modulus
+pub record VectorRowsReady (G : Setting) (a w d x u : List ℕ) (shift products : ℕ) : Type 0 where
+  pub lift-is : shift ≡ lift (clamped G)
+  pub lift-below : shift ≤ modulus
   pub bound-below : G .bound ≤ modulus
   pub vector-x : ResidueVector x
   pub vector-u : ResidueVector u
@@ -85,11 +86,12 @@ pub record VectorRowsReady (G : Setting) (a w d x u : List ℕ) (products : ℕ)
   pub small : (k : ℕ) → k < G .rows * length u → getD a k 0 < 2 ^ 16
   pub few : products + G .rows * rowCost G x u < 2 ^ 32
 
-pub record SidesReady (a w x u : List ℕ) (right products : ℕ) : Type 0 where
-  pub operands : DotReady a u
-  pub narrow : NarrowFactors a u right
+pub record SidesReady (a w d x z u : List ℕ) (i right products : ℕ) : Type 0 where
   pub claims : DotReady w x
-  pub few : products + length x + length u < 2 ^ 32
+  pub bias : RecordsReady d (i * length z) z
+  pub operands : DotReady a u
+  pub narrow : NarrowFactors a u (right + rowsTimes d z i)
+  pub few : products + length x + length u + length z < 2 ^ 32
 
 pub line-inside : {rows i long : ℕ} (n : ℕ) → i < rows → rows * n ≤ long → i * n + n ≤ long
 line-inside n l h = omega (arith, row-inside n l)
@@ -100,7 +102,7 @@ line-ready : {rows i : ℕ} (list : List ℕ) {x : List ℕ} → ResidueVector x
 line-ready {i = i} list {x} vector l long =
     record { vector = vector; long = omega (arith, part-long list (i * length x) (length x) (line-inside (length x) l long)) }
 
-module _ {G : Setting} {a w d x u : List ℕ} {products : ℕ} (ready : VectorRowsReady G a w d x u products)
+module _ {G : Setting} {a w d x u : List ℕ} {shift products : ℕ} (ready : VectorRowsReady G a w d x u shift products)
     {n : ℕ} (n-is : n ≡ biasColumns G) where
   pub bias-within : n ≤ length x
   bias-within = omega (arith, ready .bias-fits)
@@ -108,54 +110,47 @@ module _ {G : Setting} {a w d x u : List ℕ} {products : ℕ} (ready : VectorRo
   bias-long : length (take n x) ≡ n
   bias-long = length-take-le n x bias-within
 
-  pub bias-ready : {i : ℕ} → i < G .rows → RecordsReady d (i * length (take n x)) (take n x)
-  bias-ready l =
-      record {
-        vector =
-            record {
-              short = omega (arith, bias-long, bias-within, ready .vector-x .short);
-              below = λ j m. rw (getD-take n x j 0 (omega (arith, bias-long))) (ready .vector-x .below j (omega (arith, bias-long, bias-within)));
-            };
-        long = rw bias-long (omega (arith, row-inside n l, ready .long-bias, ap (λ k. G .rows * k) n-is));
-      }
+  module _ {τ i : ℕ} {b : Answer} (run : RunTo (rowSteps G a w d x u τ products) i b) (l : i < G .rows)
+      {right : ℕ} (right-is : right ≡ offsetOf (G .bound) u)
+      {r s : List ℕ} (r-is : r ≡ lineAt a (length u) i) (s-is : s ≡ lineAt w (length x) i) where
+    -- the products of one row more
+    counted : b .products + length x + length u + length (take n x) ≡ products + (i + 1) * rowCost G x u
+    counted = omega (arith, ap (λ c. c .products) (run .answer-is), bias-long)
 
-module _ {G : Setting} {a w d x u : List ℕ} {products : ℕ} (ready : VectorRowsReady G a w d x u products)
-    {τ i : ℕ} {b : Answer} (run : RunTo (rowSteps G a w d x u τ products) i b) (l : i < G .rows)
-    {right n added : ℕ} (right-is : right ≡ offsetOf (G .bound) u) (n-is : n ≡ biasColumns G) (added-is : added ≡ rowsTimes d (take n x) i)
-    {r s : List ℕ} (r-is : r ≡ lineAt a (length u) i) (s-is : s ≡ lineAt w (length x) i) where
-  -- the products of one row more
-  counted : b .products + n + length x + length u ≡ products + (i + 1) * rowCost G x u
-  counted = omega (arith, ap (λ c. c .products) (run .answer-is))
+    bias-ready : RecordsReady d (i * length (take n x)) (take n x)
+    bias-ready =
+        record {
+          vector =
+              record {
+                short = omega (arith, bias-long, bias-within, ready .vector-x .short);
+                below = λ j m. rw (getD-take n x j 0 (omega (arith, bias-long))) (ready .vector-x .below j (omega (arith, bias-long, bias-within)));
+              };
+          long = rw bias-long (omega (arith, row-inside n l, ready .long-bias, ap (λ k. G .rows * k) n-is));
+        }
 
-  pub products-fit : b .products + n < 2 ^ 32
-  products-fit = omega (arith, counted, row-inside (rowCost G x u) l, ready .few)
+    pub row-sides : SidesReady r s d x (take n x) u i right (b .products)
+    row-sides =
+        rw (r-is, s-is, right-is)
+        (record {
+          claims = line-ready w (ready .vector-x) l (ready .long-claims);
+          bias = bias-ready;
+          operands = line-ready a (ready .vector-u) l (ready .long-A);
+          narrow =
+              record {
+                small = λ k m.
+                    rw (part-of a (i * length u) (length u) k 0 m)
+                    (ready .small (i * length u + k) (omega (arith, row-inside (length u) l)));
+                offset-most =
+                    omega (
+                      arith,
+                      offset-small (G .bound) (length u) (λ j. getD u j 0),
+                      dot-small d (i * length (take n x)) (take n x),
+                      modulus-below,
+                    );
+              };
+          few = omega (arith, counted, row-inside (rowCost G x u) l, ready .few);
+        })
 
-  pub offset-fits : right + added < 2 ^ 64
-  offset-fits = rw (right-is, added-is)
-      (omega (arith, offset-small (G .bound) (length u) (λ j. getD u j 0), dot-small d (i * length (take n x)) (take n x), modulus-below))
-
-  pub row-sides : SidesReady r s x u (right + added) (b .products + n)
-  row-sides =
-      rw (r-is, s-is, right-is, added-is)
-      (record {
-        operands = line-ready a (ready .vector-u) l (ready .long-A);
-        narrow =
-            record {
-              small = λ k m.
-                  rw (part-of a (i * length u) (length u) k 0 m)
-                  (ready .small (i * length u + k) (omega (arith, row-inside (length u) l)));
-              offset-most =
-                  omega (
-                    arith,
-                    offset-small (G .bound) (length u) (λ j. getD u j 0),
-                    dot-small d (i * length (take n x)) (take n x),
-                    modulus-below,
-                  );
-            };
-        claims = line-ready w (ready .vector-x) l (ready .long-claims);
-        few = omega (arith, counted, row-inside (rowCost G x u) l, ready .few);
-      })
-
-  pub row-step : {shift left : ℕ} {c : Answer} → shift ≡ lift (clamped G) → left ≡ offsetOf shift x
-      → c ≡ rowAnswer left (right + added) r s x u τ i (b .products + n) → c ≡ step-answer (rowSteps G a w d x u τ products) i
-  row-step shift-is left-is e = e ∙ rw (left-is, shift-is, right-is, added-is, r-is, s-is, counted, n-is)
+    pub row-step : {left : ℕ} {c : Answer} → left ≡ offsetOf shift x → c ≡ rowAnswer left right r s d x (take n x) u τ i (b .products)
+        → c ≡ step-answer (rowSteps G a w d x u τ products) i
+    row-step left-is e = e ∙ rw (left-is, ready .lift-is, right-is, r-is, s-is, counted, n-is)

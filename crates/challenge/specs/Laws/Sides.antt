@@ -1,30 +1,31 @@
 -- The two sides of a row by the lists that the ticket is decoded to. x is a challenge list, y a vector of it, u its product with B.
 --
 --   RoomFor G y u      y and u have as many numbers as a vector and its product with B
---   DecodedTo G t a w  a holds the entries of A with the bound added, w what the claims put for their sums, lifted
+--   DecodedTo G t a w s  a holds the entries of A with the bound added, w what the claims put for their sums, lifted; s is the lift
 --   same-setting       a ticket that passes has a setting within its limits
---   entries-size, claims-size   how many entries A has, and how many claims there are
+--   room-within, room-front, room-rest   a room whose first n numbers were filled to be a, and then the others to be w, has at least n;
+--                      its first n are a, and the others are w
 --   decoded-by         what the decoding calls make of a ticket that passes
 --   agrees-balanced    the two sides of row i agree, as the code compares them, exactly when the row is balanced
-use Prim.Native.Nat.{ℕ, _+_, _*_, _%_, _≤_, _<_}
+use Prim.Native.Nat.{ℕ, _+_, _-_, _*_, _%_, _≤_, _<_}
 use native.Mathlib.Omega.{arith}
 use mathlib.Core.Path.{_≡_, sym, ap, _∙_}
 use mathlib.Core.Logic.{⊎-elim}
-use mathlib.Core.List.{List}
+use mathlib.Core.List.{List, _++_, append-nil}
 use lib.IntN.{pos, _*ℤ_, zero-*ℤ}
-use lib.ListN.{length, getD}
-use lib.Seq.{getD-take, length-take-le}
+use lib.ListN.{length, getD, take, drop, length-append, length-drop}
+use lib.Seq.{drop-at, drop-length, getD-take, length-take-le, take-all, take-at, take-length}
 use Rattle.residue.specs.Rules.{modulus, leastResidue}
 use Rattle.residue.specs.Laws.Modulus.{modulus-above, modulus-positive}
 use Rattle.residue.specs.Laws.Residues.{residue-sum}
 use Rattle.residue.specs.Laws.Sums.{sum-cong}
 use Rattle.algebra.specs.Rules.{sumℤ}
 use Rattle.algebra.specs.Laws.IntegerSums.{sumℤ-none, sumℤ-zero, residue-dot}
-use Rattle.algebra.specs.Laws.Fills.{lineAt, part-of}
+use Rattle.algebra.specs.Laws.Fills.{Filled, lineAt, part-of}
 use Rattle.ticket.specs.declared.setting.Setting.{Setting}
-use Rattle.ticket.specs.Rules.{lift, halfRange, part, partSize, ofA, ofBias, ofQuotients, ofRemainders, biasColumns, entryA, entryBias, claim, hasBias}
+use Rattle.ticket.specs.Rules.{lift, halfRange, ofA, ofBias, ofQuotients, ofRemainders, biasColumns, entryA, entryBias, claim, hasBias}
 use Rattle.ticket.specs.Laws.Decodes.{values-bias, ShiftedList, LiftedList, ShiftedEntries, LiftedClaims, entries-shifted, claims-lifted}
-use Rattle.ticket.specs.Laws.Layout.{partBytes, parts-are}
+use Rattle.ticket.specs.Laws.Layout.{partBytes}
 use Rattle.ticket.specs.Laws.Limits.{with-bias, without-bias, bias-columns-most, clamped, clamped-same, lift-small}
 use Rattle.ticket.specs.Laws.Differences.{no-bias-entry}
 use Rattle.ticket.specs.Laws.First.{true-or-false}
@@ -37,31 +38,62 @@ pub record RoomFor (G : Setting) (y u : List ℕ) : Type 0 where
   pub columns : length y ≡ G .columns
   pub inner : length u ≡ G .inner
 
-pub record DecodedTo (G : Setting) (t a w : List ℕ) : Type 0 where
+pub record DecodedTo (G : Setting) (t a w : List ℕ) (shift : ℕ) : Type 0 where
   pub entries : ShiftedEntries G t a
   pub claims : LiftedClaims G t w
+  pub lift-is : shift ≡ lift (clamped G)
+
+module _ (room : List ℕ) (n m : ℕ) {k : ℕ} {f : ℕ → ℕ} {a : List ℕ} (fits : n + m ≤ length room) (first : Filled 0 (take n room) k f a) where
+  -- the room when its first n numbers are filled
+  abbrev once : List ℕ
+  once = a ++ drop n room
+
+  long : length a ≡ n
+  long = first .long ∙ length-take-le n room (omega arith)
+
+  left : length once - n ≡ length (drop n room)
+  left = omega (arith, length-append a (drop n room), long)
+
+  rest-fits : m ≤ length (take (length once - n) (drop n once))
+  rest-fits =
+      rw (left, drop-at a (drop n room) n long, take-length (drop n room)) (omega (arith, length-drop n room))
+
+  module _ {l : ℕ} {g : ℕ → ℕ} {w : List ℕ} (second : Filled 0 (take (length once - n) (drop n once)) l g w) where
+    -- and when the others are
+    abbrev both : List ℕ
+    both = take n once ++ (w ++ drop (length once - n) (drop n once))
+
+    joined : both ≡ a ++ w
+    joined = rw (left, take-at a (drop n room) n long, drop-at a (drop n room) n long, drop-length (drop n room), append-nil w)
+
+    pub room-within : n ≤ length both
+    room-within = rw joined (omega (arith, length-append a w, long))
+
+    pub room-front : take (n - 0) (drop 0 both) ≡ a
+    room-front = rw joined (take-at a w (n - 0) (omega (arith, long)))
+
+    pub room-rest : take (length both - n) (drop n both) ≡ w
+    room-rest = rw (joined, drop-at a w n long) (take-all (length (a ++ w) - n) w (omega (arith, length-append a w, long)))
 
 module _ {G : Setting} {t : List ℕ} (passed : Passed G t) where
   pub same-setting : clamped G ≡ G
   same-setting = clamped-same (passed .counts .sizes) (passed .numbers)
 
-  pub entries-size : partSize (part (clamped G) ofA) ≡ G .rows * G .inner
-  entries-size = rw same-setting (parts-are G .size-A)
-
-  pub claims-size : partSize (part (clamped G) ofQuotients) ≡ G .rows * G .columns
-  claims-size = rw same-setting (parts-are G .size-quotients)
-
-  pub decoded-by : {a before-a w before-w b q r : List ℕ} {half : ℕ}
-      → partSize (part (clamped G) ofA) ≤ length before-a → partSize (part (clamped G) ofQuotients) ≤ length before-w
+  pub decoded-by : (room : List ℕ) {a w b q r : List ℕ} {half shift : ℕ} → let size = G .rows * G .inner in let once = a ++ drop size room in
+      size + G .rows * G .columns ≤ length room
       → b ≡ partBytes (clamped G) t ofA → q ≡ partBytes (clamped G) t ofQuotients → r ≡ partBytes (clamped G) t ofRemainders
-      → half ≡ halfRange (clamped G) → ShiftedList b (G .bound) before-a a → LiftedList q r half (G .scale) before-w w → DecodedTo G t a w
-  decoded-by room-a room-w b-is q-is r-is half-is entries claims =
+      → half ≡ halfRange (clamped G) → ShiftedList b (G .bound) (take size room) a
+      → LiftedList q r half (G .scale) (take (length once - size) (drop size once)) w
+      → shift ≡ half * clamped G .scale → DecodedTo G t a w shift
+  decoded-by room fits b-is q-is r-is half-is entries claims shift-is =
       record {
-        entries = entries-shifted passed b-is (omega (arith, entries-size)) entries;
-        claims = claims-lifted passed q-is r-is half-is (omega (arith, claims-size)) claims;
+        entries = entries-shifted passed b-is (omega (arith, length-take-le (G .rows * G .inner) room (omega arith))) entries;
+        claims = claims-lifted passed q-is r-is half-is (rest-fits room _ _ fits entries) claims;
+        lift-is = shift-is ∙ ap (λ n. n * clamped G .scale) half-is;
       }
 
-  module _ {a w d : List ℕ} (decoded : DecodedTo G t a w) (d-is : d ≡ partBytes (clamped G) t ofBias) (x : List ℕ) (τ : ℕ) (y u : List ℕ) (room : RoomFor G y u)
+  module _ {a w d : List ℕ} {shift : ℕ} (decoded : DecodedTo G t a w shift) (d-is : d ≡ partBytes (clamped G) t ofBias)
+      (x : List ℕ) (τ : ℕ) (y u : List ℕ) (room : RoomFor G y u)
       (vector : (j : ℕ) → j < G .columns → getD y j 0 ≡ challengeAt G x τ j) (product : (k : ℕ) → k < G .inner → getD u k 0 ≡ productB G t x τ k)
       {i : ℕ} (row : i < G .rows) where
     claims-by : dotWith (offsetOf (lift (clamped G)) y) (lineAt w (length y) i) y ≡ claimSide G t x τ i

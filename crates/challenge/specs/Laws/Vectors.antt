@@ -2,8 +2,6 @@
 -- with B, named before-y and before-u as they were before they were filled.
 --
 --   ListReady G t x          the vectors of the list x can be worked through
---   list-ready               those of a well-formed list can, with a ticket that passes
---   DecodeReady G t x n k    so they can with lists of n and of k numbers for A and the claims
 --   vectorSteps G t x        the vectors one after the other
 --   vectors-answer           their answer is the verdict
 --   VectorReady G t x τ q    vector τ can be worked through after q products
@@ -28,7 +26,7 @@ use Rattle.algebra.specs.Laws.IntegerSums.{residue-dot}
 use Rattle.algebra.specs.Laws.Positions.{row-inside}
 use Rattle.ticket.specs.declared.setting.Setting.{Setting}
 use Rattle.ticket.specs.declared.Answer.{Answer}
-use Rattle.ticket.specs.Rules.{mostRows, mostInner, mostColumns, part, partSize, ofA, ofB, ofBias, ofQuotients, answer, entryB}
+use Rattle.ticket.specs.Rules.{mostRows, mostInner, mostColumns, ofB, ofBias, answer, entryB}
 use Rattle.ticket.specs.Laws.Decodes.{values-B, values-bias}
 use Rattle.ticket.specs.Laws.Layout.{partBytes}
 use Rattle.ticket.specs.Laws.Limits.{bias-columns-most, clamped, lift-small}
@@ -39,27 +37,11 @@ use Rattle.challenge.specs.Rules.{challengeAt, balanced, productB, first
 use Rattle.challenge.specs.Laws.Lists.{Entries}
 use Rattle.challenge.specs.Laws.Products.{ResidueVector, ProductReady, rowsTimes, dotOf}
 use Rattle.challenge.specs.Laws.Rows.{VectorRowsReady, rowSteps, line-inside}
-use Rattle.challenge.specs.Laws.Sides.{RoomFor, DecodedTo, same-setting, entries-size, claims-size, agrees-balanced}
+use Rattle.challenge.specs.Laws.Sides.{RoomFor, DecodedTo, same-setting, agrees-balanced}
 
 pub record ListReady (G : Setting) (t x : List ℕ) : Type 0 where
   pub passed : Passed G t
   pub list : Entries G x
-  pub entries-few : partSize (part (clamped G) ofA) ≤ mostRows * mostInner
-  pub claims-few : partSize (part (clamped G) ofQuotients) ≤ mostRows * mostColumns
-
-pub list-ready : {G : Setting} {t x : List ℕ} → Passed G t → Entries G x → ListReady G t x
-list-ready passed list =
-    record {
-      passed = passed;
-      list = list;
-      entries-few = omega (arith, entries-size passed, passed .counts .entries-A);
-      claims-few = omega (arith, claims-size passed, passed .counts .claims);
-    }
-
-pub record DecodeReady (G : Setting) (t x : List ℕ) (entries claims : ℕ) : Type 0 where
-  pub list : ListReady G t x
-  pub entries-fit : partSize (part (clamped G) ofA) ≤ entries
-  pub claims-fit : partSize (part (clamped G) ofQuotients) ≤ claims
 
 abbrev pub vectorSteps : Setting → List ℕ → List ℕ → Steps
 vectorSteps G t x =
@@ -161,12 +143,13 @@ module _ {G : Setting} {t x : List ℕ} {τ products : ℕ} (ready : VectorReady
         rooms : RoomFor G y u
         rooms = record { columns = ap length y-is ∙ vector-long; inner = made .long ∙ room .inner }
 
-        module _ {a w d : List ℕ} (d-is : d ≡ partBytes (clamped G) t ofBias) (decoded : DecodedTo G t a w) where
-          pub rows-ready : VectorRowsReady G a w d y u (products + G .inner * G .columns)
+        module _ {a w d : List ℕ} {shift : ℕ} (d-is : d ≡ partBytes (clamped G) t ofBias) (decoded : DecodedTo G t a w shift) where
+          pub rows-ready : VectorRowsReady G a w d y u shift (products + G .inner * G .columns)
           rows-ready =
               let passed = ready .list .passed in
               record {
-                lift-below = rw (same-setting passed) (omega (arith, lift-small (passed .numbers) (passed .fitted)));
+                lift-is = decoded .lift-is;
+                lift-below = rw (decoded .lift-is, same-setting passed) (omega (arith, lift-small (passed .numbers) (passed .fitted)));
                 bound-below = omega (arith, passed .numbers .bound, modulus-above);
                 vector-x = rw y-is vector;
                 vector-u = product-vector;

@@ -11,10 +11,10 @@ use Rattle.challenge.proofs.rows.check_vectors.Statement.{statement}
 use Rattle.challenge.proofs.rows.check_vectors.Tie as tie
 
 abbrev Inv-loop : tie.InvT-loop
-Inv-loop setting ticket list a w x₀ u₀ answer₀ t₀ x u answer t = RoomFor setting x u × RunTo (vectorSteps setting ticket list) t answer
+Inv-loop setting ticket list a w x₀ u₀ lift answer₀ t₀ x u answer t = RoomFor setting x u × RunTo (vectorSteps setting ticket list) t answer
 
 abbrev μ-loop : tie.MeasureT-loop
-μ-loop setting ticket list a w x₀ u₀ answer₀ t₀ x u answer t = setting .vectors - t
+μ-loop setting ticket list a w x₀ u₀ lift answer₀ t₀ x u answer t = setting .vectors - t
 
 returns : tie.Need-returns Inv-loop μ-loop
 returns c =
