@@ -46,7 +46,8 @@ loop-again c =
 pub read-records-spec : {M : Type 1} → statement M
 read-records-spec =
     tie.close
-    (tie.spec Inv-loop μ-loop (λ c. (omega arith, sym (start-none _), read-none _ _)) (λ c κs. (begun (c .before) .pre .0 .within, omega arith, begun (c .before) .pre .1))
-    (λ c κs. ready c) (λ c. let part = c .before .before in read-refused _ _ _ (at (part .before) .loop .inv .2) (read part) (c .if1 .taken))
+    (tie.spec Inv-loop μ-loop (λ c. (omega arith, sym (start-none _), read-none _ _))
+    (λ c κs. let start = begun (c .before) in (start .pre .0 .within, omega arith, start .pre .1)) (λ c κs. ready c)
+    (λ c. let part = c .before .before in read-refused _ _ _ (at (part .before) .loop .inv .2) (read part) (c .if1 .taken))
     (λ c. search needs) (λ c. search needs) (λ c. omega (arith, ready (part c .before))) (λ c. omega (arith, ready (part c .before)))
     (λ c. omega arith) (λ c. omega arith) loop-again (λ c. read-all _ _ (omega arith) (c .before .loop .inv .2)))
