@@ -44,12 +44,13 @@ rowAnswer left right a w d x z u τ i products =
     let made = products + length x + length u + length z in
     unless (sidesEqual left (right + rowsTimes d z i) a w x u) (answer 12 τ i made) (answer 0 0 0 made)
 
-module _ {c d m n : ℕ} (c-is : c ≡ m) (d-is : d ≡ n) (caught passed : Answer) where
-  pub row-caught : (c ≡ d → ⊥) → caught ≡ unless (eqb m n) caught passed
-  row-caught differ = sym (rw (ne-eqb m n (λ e. differ (c-is ∙ e ∙ sym d-is))))
+module _ (right : ℕ) (a u : List ℕ) {c d m added n : ℕ} (c-is : c ≡ m) (added-is : added ≡ n) (d-is : d ≡ dotWith (right + added) a u)
+    (caught passed : Answer) where
+  pub row-caught : (c ≡ d → ⊥) → caught ≡ unless (eqb m (dotWith (right + n) a u)) caught passed
+  row-caught differ = sym (rw (ne-eqb m _ (λ e. differ (c-is ∙ e ∙ sym (rw added-is at d-is)))))
 
-  pub row-balanced : c ≡ d → passed ≡ unless (eqb m n) caught passed
-  row-balanced e = sym (rw (eq-eqb m n (sym c-is ∙ e ∙ d-is)))
+  pub row-balanced : c ≡ d → passed ≡ unless (eqb m (dotWith (right + n) a u)) caught passed
+  row-balanced e = sym (rw (eq-eqb m _ (sym c-is ∙ e ∙ (rw added-is at d-is))))
 
 abbrev pub biasVector : Setting → List ℕ → List ℕ
 biasVector G x = take (biasColumns G) x

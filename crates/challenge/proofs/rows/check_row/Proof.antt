@@ -4,14 +4,10 @@ use Rattle.challenge.proofs.rows.check_row.Statement.{statement}
 use Rattle.challenge.proofs.rows.check_row.Tie as tie
 
 returns : tie.Need-returns
-returns c =
-    let made = c .before .before .before in
-    row-caught (made .before .before .wide-dot .ensures) (rw (made .before .row-bias .ensures) at (made .dot .ensures)) _ _ (c .if1 .taken)
+returns c = search row-caught
 
 returns-2 : tie.Need-returns-2
-returns-2 c =
-    let made = c .before .before .before in
-    row-balanced (made .before .before .wide-dot .ensures) (rw (made .before .row-bias .ensures) at (made .dot .ensures)) _ _ (c .if1 .left)
+returns-2 c = search row-balanced
 
 pub check-row-spec : {M : Type 1} → statement M
 check-row-spec =

@@ -16,6 +16,9 @@ Inv-loop setting ticket list a w x₀ u₀ lift answer₀ t₀ x u answer t = Ro
 abbrev μ-loop : tie.MeasureT-loop
 μ-loop setting ticket list a w x₀ u₀ lift answer₀ t₀ x u answer t = setting .vectors - t
 
+check-vector-requires : tie.Need-check-vector-requires Inv-loop μ-loop
+check-vector-requires c κs = (search vector-ready, search, search)
+
 returns : tie.Need-returns Inv-loop μ-loop
 returns c =
     let checked = c .before .before .before .before .before .before in
@@ -29,6 +32,6 @@ pub check-vectors-spec : {M : Type 1} → statement M
 check-vectors-spec =
     tie.close
     (tie.spec Inv-loop μ-loop (λ c. (search, run-none (ap (answer 0 0 0) (omega arith))))
-    (λ c κs. (search vector-ready, search, search)) (λ c. search needs) (λ c. search needs) returns (λ c. omega arith)
+    check-vector-requires (λ c. search needs) (λ c. search needs) returns (λ c. omega arith)
     (λ c. omega arith) loop-again (λ c. search needs) (λ c. search needs)
     (λ c. run-ended (c .before .before .loop .inv .1) (c .if1 .left) ∙ vectors-answer _ _ _))
