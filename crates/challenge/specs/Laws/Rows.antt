@@ -78,6 +78,7 @@ pub record VectorRowsReady (G : Setting) (a w d x u : List ℕ) (shift products 
   pub lift-is : shift ≡ lift (clamped G)
   pub lift-below : shift ≤ modulus
   pub bound-below : G .bound ≤ modulus
+  pub few : products + G .rows * rowCost G x u < 2 ^ 32
   pub vector-x : ResidueVector x
   pub vector-u : ResidueVector u
   pub long-A : G .rows * length u ≤ length a
@@ -85,7 +86,6 @@ pub record VectorRowsReady (G : Setting) (a w d x u : List ℕ) (shift products 
   pub bias-fits : biasColumns G ≤ length x
   pub long-bias : recordBytes * (G .rows * biasColumns G) ≤ length d
   pub small : (k : ℕ) → k < G .rows * length u → getD a k 0 < 2 ^ 16
-  pub few : products + G .rows * rowCost G x u < 2 ^ 32
 
 pub record SidesReady (a w d x z u : List ℕ) (i right products : ℕ) : Type 0 where
   pub claims : DotReady w x

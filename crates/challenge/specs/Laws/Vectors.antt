@@ -151,6 +151,7 @@ module _ {G : Setting} {t x : List ℕ} {τ products : ℕ} (ready : VectorReady
                 lift-is = decoded .lift-is;
                 lift-below = rw (decoded .lift-is, same-setting passed) (omega (arith, lift-small (passed .numbers) (passed .fitted)));
                 bound-below = omega (arith, passed .numbers .bound, modulus-above);
+                few = rw (rooms .columns, rooms .inner) (omega (arith, ready .few));
                 vector-x = rw y-is vector;
                 vector-u = product-vector;
                 long-A = rw (rooms .inner) (decoded .entries .long);
@@ -158,7 +159,6 @@ module _ {G : Setting} {t x : List ℕ} {τ products : ℕ} (ready : VectorReady
                 bias-fits = omega (arith, rooms .columns, bias-columns-most G);
                 long-bias = omega (arith, values-bias passed d-is .0);
                 small = rw (rooms .inner) (decoded .entries .small);
-                few = rw (rooms .columns, rooms .inner) (omega (arith, ready .few));
               }
 
           pub vector-answered : {r : Answer} → r ≡ steps-answer (rowSteps G a w d y u τ (products + G .inner * G .columns))
