@@ -1,5 +1,6 @@
 // The operands and the bias: tests 13, 14 and 18, and their entries as 16-bit numbers, or modulo 2^32.
 ghost use mathlib.Core.Path.{_≡_};
+ghost use mathlib.Core.List.{_++_};
 ghost use Prim.Native.Nat.{_+_, _*_, _≤_, _<_, _^_};
 ghost use lib.IntN.{pos, natAbs};
 ghost use lib.ListN.{length};
@@ -10,6 +11,7 @@ ghost use Rattle.ticket.specs.Rules.{firstRefusal};
 ghost use Rattle.ticket.specs.Laws.All.{all};
 ghost use Rattle.ticket.specs.Laws.Limits.{Within};
 ghost use Rattle.writer.specs.Rules.{beyondNumber, operandsReading};
+ghost use Rattle.writer.specs.Laws.Answers.{lengthsReading};
 ghost use Rattle.writer.specs.Laws.Operands.{withinAt, columnOf, BiasAdded, BiasReady, NarrowReady, TurnReady};
 use ticket::Answer;
 use ticket::PartNumber;
@@ -20,8 +22,28 @@ pub(crate) fn read(setting: Setting, a: &[i32], b: &[i32], bias: &[i32]) -> Answ
     requires { ⌜ Within setting ⌝ }
     ensures { λ r. ⌜ r ≡ operandsReading setting (now (a .entry)) (now (b .entry)) (now (bias .entry)) ⌝ }
 {
-    let of_a = setting.size(PartNumber::A);
-    if a.len() != of_a as usize {
+    let of_lengths = lengths(setting, a, b, bias);
+    if of_lengths.number != 0 {
+        return of_lengths;
+    }
+    let of_entries = entries(setting.bound, a, b);
+    if of_entries.number != 0 {
+        return of_entries;
+    }
+    first_beyond(
+        setting.largest_bias(),
+        18,
+        bias,
+        setting.start(PartNumber::BIAS),
+    )
+}
+
+// That of test 13.
+fn lengths(setting: Setting, a: &[i32], b: &[i32], bias: &[i32]) -> Answer
+    requires { ⌜ Within setting ⌝ }
+    ensures { λ r. ⌜ r ≡ lengthsReading setting (now (a .entry)) (now (b .entry)) (now (bias .entry)) ⌝ }
+{
+    if a.len() != setting.size(PartNumber::A) as usize {
         return Answer {
             number: 13,
             place: 0,
@@ -45,20 +67,19 @@ pub(crate) fn read(setting: Setting, a: &[i32], b: &[i32], bias: &[i32]) -> Answ
             products: 0,
         };
     }
-    let in_a = first_beyond(setting.bound, 14, a, 0);
+    Answer::PASSED
+}
+
+// That of test 14: the entries of A, then on in B.
+fn entries(bound: u32, a: &[i32], b: &[i32]) -> Answer
+    requires { ⌜ length (now a) + length (now b) < 2 ^ 32 ⌝ }
+    ensures { λ r. ⌜ r ≡ firstRefusal 0 (length (now (a .entry) ++ now (b .entry))) (beyondNumber bound 14 (now (a .entry) ++ now (b .entry))) ⌝ }
+{
+    let in_a = first_beyond(bound, 14, a, 0);
     if in_a.number != 0 {
         return in_a;
     }
-    let in_b = first_beyond(setting.bound, 14, b, of_a);
-    if in_b.number != 0 {
-        return in_b;
-    }
-    first_beyond(
-        setting.largest_bias(),
-        18,
-        bias,
-        setting.start(PartNumber::BIAS),
-    )
+    first_beyond(bound, 14, b, a.len() as u32)
 }
 
 // The first entry beyond a bound, which has the given number, its place counted from start; number 0 where there is none. The entries

@@ -3,8 +3,10 @@
 --   Writable G A B C   the setting passes, the operands and the bias have their lengths, and their entries are within their bounds
 --   WriterAnswered G A B C s a   the condition of the answer a, no earlier test failing; s is the output's length
 --   Lengths G A B C, lengths-of   all have their lengths
+--   lengthsReading G A B C   the answer of test 13 alone; its number is 0 where all have their lengths
 --   writable, all-within   the entries one operand after the other: in A, then on in B
---   in-order           the entries tested in A, then in B, then in the bias
+--   in-order           13, then 14, then 18
+--   passed-lengths     where 13 passes, all have their lengths
 --   operands-passed    operands and bias that pass their tests
 --   passed-operands    and from their answer
 --   setting-refused, operands-refused, output-next   the writer's answer, as the tests come out in order
@@ -14,7 +16,8 @@
 use Prim.Native.Nat.{ℕ, _+_, _-_, _≤_, _<_}
 use native.Mathlib.Decide.{decLe}
 use native.Mathlib.Omega.{arith}
-use mathlib.Core.Path.{_≡_, sym, ap, _∙_}
+use mathlib.Core.Path.{_≡_, refl, sym, ap, _∙_}
+use mathlib.Core.Bool.{Bool, true, false}
 use mathlib.Core.List.{List, _++_}
 use borrow.Author.Tests.{le-leb, lt-leb, eq-eqb, ne-eqb, eqb-true}
 use lib.Dec.{leb, eqb}
@@ -23,11 +26,10 @@ use lib.ListN.{length, getD, drop, length-append, List·getD-append}
 use lib.Seq.{getD-append-add}
 use Rattle.ticket.specs.declared.setting.Setting.{Setting}
 use Rattle.ticket.specs.declared.Answer.{Answer}
-use Rattle.ticket.specs.Rules.{unless, refusal, after, firstRefusal, settingTests, settingNumber, part, partSize, ofA, ofB, ofBias, start, biasBound, ticketLength}
+use Rattle.ticket.specs.Rules.{unless, refusal, after, firstRefusal, settingTests, settingNumber, part, partSize, ofA, ofB, ofBias, biasBound, ticketLength}
 use Rattle.ticket.specs.Laws.Answers.{unless-zero, after-zero, scan-zero}
-use Rattle.ticket.specs.Laws.Layout.{parts-are}
 use Rattle.ticket.specs.Laws.Limits.{setting-numbered}
-use Rattle.ticket.specs.Laws.Scans.{refusal-none, refusal-is, refusal-cong, refusal-split, after-passed, after-refused, after-together}
+use Rattle.ticket.specs.Laws.Scans.{refusal-none, after-passed, after-refused}
 use Rattle.ticket.specs.Laws.Tests.{AllHold, Failed, holding-number, failed-number, failed-numbered}
 use Rattle.writer.specs.Rules.{beyondNumber, operandsReading, written, writing, ticketOf, outputAfter}
 use Rattle.writer.specs.Laws.Operands.{number-within, within-of, beyond-none, beyond-at}
@@ -46,6 +48,18 @@ pub record Lengths (G : Setting) (A B C : List ℤ) : Type 0 where
   pub of-A : length A ≡ partSize (part G ofA)
   pub of-B : length B ≡ partSize (part G ofB)
   pub of-C : length C ≡ partSize (part G ofBias)
+
+unfoldable pub lengthsReading : Setting → List ℤ → List ℤ → List ℤ → Answer
+lengthsReading G A B C =
+    unless (eqb (length A) (partSize (part G ofA))) (refusal 13 0)
+    (unless (eqb (length B) (partSize (part G ofB))) (refusal 13 1)
+    (unless (eqb (length C) (partSize (part G ofBias))) (refusal 13 2) (refusal 0 0)))
+
+-- a test that refuses, before a later answer
+unless-after : (holds : Bool) (refused rest later : Answer) → (refused .number ≡ 0 → ⊥)
+    → after (unless holds refused rest) later ≡ unless holds refused (after rest later)
+unless-after true refused rest later other = refl
+unless-after false refused rest later other = after-refused refused later other
 
 pub data WriterAnswered (G : Setting) (A B C : List ℤ) (size : ℕ) : Answer → Type 0 where
   setting-failed : {c : ℕ} → Failed (settingTests G) c → WriterAnswered G A B C size (refusal c 0)
@@ -119,28 +133,26 @@ module _ (G : Setting) (A B C : List ℤ) where
         eq-eqb (length C) (partSize (part G ofBias)) (long .of-C),
       )
 
-  pub in-order : Lengths G A B C → operandsReading G A B C
-      ≡ after (firstRefusal 0 (length A) (beyondNumber (G .bound) 14 A))
-      (after (firstRefusal (partSize (part G ofA)) (length B) (beyondNumber (G .bound) 14 B))
-      (firstRefusal (start G ofBias) (length C) (beyondNumber (biasBound G) 18 C)))
-  unfolding beyondNumber
-  in-order long =
-      let later : Answer = firstRefusal (0 + length A) (length B) (λ i. number (length A + i)) in
-      let first : entries ≡ after (firstRefusal 0 (length A) (beyondNumber (G .bound) 14 A))
-      (firstRefusal (partSize (part G ofA)) (length B) (beyondNumber (G .bound) 14 B)) =
-      ap (λ n. firstRefusal 0 n number) (length-append A B) ∙ refusal-split 0 (length A) (length B) number
-      ∙ ap (λ a. after a later) (refusal-cong 0 (length A) number (beyondNumber (G .bound) 14 A)
-      (λ k l. ap (λ z. unless (leb (natAbs z) (G .bound)) 14 0) (in-A k l)))
-      ∙ ap (after (firstRefusal 0 (length A) (beyondNumber (G .bound) 14 A)))
-      (refusal-cong (0 + length A) (length B) (λ i. number (length A + i)) (beyondNumber (G .bound) 14 B)
-      (λ k l. ap (λ z. unless (leb (natAbs z) (G .bound)) 14 0) (in-B k))
-      ∙ ap (λ n. firstRefusal n (length B) (beyondNumber (G .bound) 14 B)) (omega (arith, long .of-A))) in
-      lengths-pass long
-      ∙ ap (λ a. after a added) first
-      ∙ ap (λ n. after (after (firstRefusal 0 (length A) (beyondNumber (G .bound) 14 A))
-      (firstRefusal (partSize (part G ofA)) (length B) (beyondNumber (G .bound) 14 B))) (firstRefusal n (length C) (beyondNumber (biasBound G) 18 C)))
-      (omega (arith, length-append A B, long .of-A, long .of-B, parts-are G))
-      ∙ after-together _ _ _
+  pub in-order : operandsReading G A B C ≡ after (lengthsReading G A B C) (after entries added)
+  unfolding operandsReading lengthsReading
+  in-order =
+      let long-A = eqb (length A) (partSize (part G ofA)) in
+      let long-B = eqb (length B) (partSize (part G ofB)) in
+      let long-C = eqb (length C) (partSize (part G ofBias)) in
+      sym (unless-after long-A _ _ _ (λ z. omega arith)
+      ∙ ap (unless long-A (refusal 13 0)) (unless-after long-B _ _ _ (λ z. omega arith)
+      ∙ ap (unless long-B (refusal 13 1)) (unless-after long-C _ _ _ (λ z. omega arith)
+      ∙ ap (unless long-C (refusal 13 2)) (after-passed (refusal 0 0) (after entries added) refl))))
+
+  pub passed-lengths : lengthsReading G A B C .number ≡ 0 → Lengths G A B C
+  unfolding lengthsReading
+  passed-lengths e =
+      let third = unless (eqb (length C) (partSize (part G ofBias))) (refusal 13 2) (refusal 0 0) in
+      let second = unless (eqb (length B) (partSize (part G ofB))) (refusal 13 1) third in
+      let first-test = unless-zero (eqb (length A) (partSize (part G ofA))) (refusal 13 0) second (λ z. omega arith) .0 e in
+      let second-test = unless-zero (eqb (length B) (partSize (part G ofB))) (refusal 13 1) third (λ z. omega arith) .0 (first-test .1) in
+      let third-test = unless-zero (eqb (length C) (partSize (part G ofBias))) (refusal 13 2) (refusal 0 0) (λ z. omega arith) .0 (second-test .1) in
+      record { of-A = eqb-true _ _ (first-test .0); of-B = eqb-true _ _ (second-test .0); of-C = eqb-true _ _ (third-test .0) }
 
   pub operands-passed : Writable G A B C → operandsReading G A B C ≡ refusal 0 0
   operands-passed w =
@@ -150,16 +162,10 @@ module _ (G : Setting) (A B C : List ℤ) where
       ∙ refusal-none (length (A ++ B)) (length C) (beyondNumber (biasBound G) 18 C) (λ k l. number-within (biasBound G) 18 C k (w .within-C k l))
 
   pub passed-operands : AllHold (settingTests G) → operandsReading G A B C .number ≡ 0 → Writable G A B C
-  unfolding operandsReading
   passed-operands setting e =
-      let third = unless (eqb (length C) (partSize (part G ofBias))) (refusal 13 2) (after entries added) in
-      let second = unless (eqb (length B) (partSize (part G ofB))) (refusal 13 1) third in
-      let first-test = unless-zero (eqb (length A) (partSize (part G ofA))) (refusal 13 0) second (λ z. omega arith) .0 e in
-      let second-test = unless-zero (eqb (length B) (partSize (part G ofB))) (refusal 13 1) third (λ z. omega arith) .0 (first-test .1) in
-      let third-test = unless-zero (eqb (length C) (partSize (part G ofBias))) (refusal 13 2) (after entries added) (λ z. omega arith) .0 (second-test .1) in
-      let both-pass = after-zero entries added .0 (third-test .1) in
-      writable setting
-      (record { of-A = eqb-true _ _ (first-test .0); of-B = eqb-true _ _ (second-test .0); of-C = eqb-true _ _ (third-test .0) })
+      let tests = after-zero (lengthsReading G A B C) (after entries added) .0 (rw in-order at e) in
+      let both-pass = after-zero entries added .0 (tests .1) in
+      writable setting (passed-lengths (tests .0))
       (λ k l. within-of (G .bound) 14 (A ++ B) (omega arith) k (scan-zero 0 (length (A ++ B)) number .0 (both-pass .0) k l))
       (λ k l. within-of (biasBound G) 18 C (omega arith) k
       (scan-zero (length (A ++ B)) (length C) (beyondNumber (biasBound G) 18 C) .0 (both-pass .1) k l))

@@ -5,6 +5,7 @@
 --   withinAt T x k    entry k of x is at most T in size
 --   before-more       one more entry is not beyond the bound
 --   beyond-none, beyond-within, beyond-at   the answer where no entry is beyond the bound, and where entry k is the first
+--   beyond-both       the entries of two lists: those of one, then on in the other
 --   size-read         the absolute value of an entry, as it is read
 --   SmallEntries b x  the entries are numbers of at most b bits
 --   small-part        so are those of a part
@@ -25,12 +26,13 @@ use native.Mathlib.Decide.{ℕ-discrete, decLe}
 use native.Mathlib.Omega.{arith}
 use mathlib.Core.Path.{_≡_, refl, sym, ap, subst, subst⁻¹, _∙_}
 use mathlib.Core.Bool.{Bool, true, false, cond, true≢false}
-use mathlib.Core.List.{List}
+use mathlib.Core.List.{List, _++_}
 use borrow.Author.Tests.{le-leb, lt-leb, leb-true, ltb-true}
 use lib.Dec.{leb, eqb}
 use lib.Pow.{pow-mono}
 use lib.IntN.{ℤ, pos, negsuc, natAbs, _+ℤ_, _-ℤ_}
-use lib.ListN.{length, getD, take, drop}
+use lib.ListN.{length, getD, take, drop, length-append, List·getD-append}
+use lib.Seq.{getD-append-add}
 use lib.Signed.{mag, ltZ}
 use mir.Syntax.{w16, w32, w64}
 use mir.Val.{SFits, toZ, ofZ}
@@ -41,9 +43,9 @@ use Rattle.residue.specs.Laws.Modulus.{modulus-above, modulus-below, modulus-po
 use Rattle.residue.specs.Laws.Residues.{residue-below, residue-of-residue, residue-shift}
 use Rattle.residue.specs.Laws.Signed.{widened, narrowed-is, narrowed-fits}
 use Rattle.algebra.specs.Laws.Fills.{Filled, part-of, part-long}
-use Rattle.ticket.specs.Rules.{unless, refusal, firstRefusal}
+use Rattle.ticket.specs.Rules.{unless, refusal, after, firstRefusal}
 use Rattle.ticket.specs.Laws.All.{all, all-at}
-use Rattle.ticket.specs.Laws.Scans.{refusal-none, refusal-is}
+use Rattle.ticket.specs.Laws.Scans.{refusal-none, refusal-is, refusal-cong, refusal-split}
 use Rattle.writer.specs.Rules.{beyondNumber, entryOf}
 
 -- tests 14 and 18
@@ -97,6 +99,20 @@ module _ (bound number : ℕ) (x : List ℤ) where
         let other : beyondNumber bound number x k ≡ number = number-beyond k beyond in
         refusal-is start (length x) k (beyondNumber bound number x) l (λ i m. number-within i (before i m)) (λ e. omega arith)
         ∙ ap (λ c. refusal c (start + k)) other
+
+pub beyond-both : (bound number : ℕ) (A B : List ℤ) → firstRefusal 0 (length (A ++ B)) (beyondNumber bound number (A ++ B))
+    ≡ after (firstRefusal 0 (length A) (beyondNumber bound number A)) (firstRefusal (length A) (length B) (beyondNumber bound number B))
+unfolding beyondNumber
+beyond-both bound number A B =
+    let both = beyondNumber bound number (A ++ B) in
+    ap (λ n. firstRefusal 0 n both) (length-append A B) ∙ refusal-split 0 (length A) (length B) both
+    ∙ ap (λ a. after a (firstRefusal (0 + length A) (length B) (λ i. both (length A + i))))
+    (refusal-cong 0 (length A) both (beyondNumber bound number A)
+    (λ k l. ap (λ z. unless (leb (natAbs z) bound) number 0) (List·getD-append A B (pos 0) k l)))
+    ∙ ap (after (firstRefusal 0 (length A) (beyondNumber bound number A)))
+    (refusal-cong (0 + length A) (length B) (λ i. both (length A + i)) (beyondNumber bound number B)
+    (λ k l. ap (λ z. unless (leb (natAbs z) bound) number 0) (getD-append-add A B k (pos 0)))
+    ∙ ap (λ n. firstRefusal n (length B) (beyondNumber bound number B)) (omega arith))
 
 -- the absolute value of an entry, as it is read
 pub size-read : (x : List ℤ) (k : ℕ) {size : ℕ} → mag (getD x k (pos 0)) < 2 ^ 31 → size ≡ natAbs (toZ w32 (ofZ w32 (getD x k (pos 0))))
