@@ -3,12 +3,12 @@ use native.Mathlib.Omega.{arith}
 use mathlib.Core.Path.{_≡_, sym, ap, _∙_}
 use borrow.Author.Needs.{needs}
 use lib.ListN.{length}
-use Rattle.ticket.specs.Rules.{settingTests, ticketLength, sumProducts}
+use Rattle.ticket.specs.Rules.{answer, settingTests, ticketLength, sumProducts}
 use Rattle.ticket.specs.Laws.Layout.{length-most}
-use Rattle.ticket.specs.Laws.Limits.{setting-numbered, limits-of, counts}
+use Rattle.ticket.specs.Laws.Limits.{setting-numbered, limits-of, clamped, clamped-same, counts}
 use Rattle.ticket.specs.Laws.Tests.{AllHold, tests-hold}
+use Rattle.writer.specs.Rules.{operandsReading, written}
 use Rattle.writer.specs.Laws.Answers.{Writable, output-short, writing-of, setting-refused, operands-refused, passed-operands}
-use Rattle.writer.specs.Laws.Entries.{limits, unclamped}
 use Rattle.writer.specs.Laws.Tickets.{refused, all-written}
 use Rattle.writer.proofs.write.Statement.{statement}
 use Rattle.writer.proofs.write.Tie as tie
@@ -23,35 +23,52 @@ numbered c = c .before .before .before .before .before
 setting : (c : tie.Else1) → AllHold (settingTests (start (c .before) .args .setting))
 setting c = tests-hold _ (setting-numbered _) (sym (c .before .number .ensures) ∙ c .if1 .left)
 
-writable : (c : tie.Else2) → let begun = start (c .before .before .before .before) in
-    Writable (begun .args .setting) (begun .args .a .now) (begun .args .b .now) (begun .args .bias .now)
-writable c =
-    let read = c .before .before in
-    passed-operands _ _ _ _ (setting (read .before)) (sym (ap (λ a. a .number) (read .read .ensures)) ∙ c .if2 .left)
+same : (c : tie.Else1) → clamped (start (c .before) .args .setting) ≡ start (c .before) .args .setting
+same c =
+    let within = limits-of _ (setting c) in
+    clamped-same (within .sizes) (within .numbers)
 
+passed : (c : tie.Else2) → let of = start (c .before .before .before .before) .args in
+    operandsReading (of .setting) (of .a .now) (of .b .now) (of .bias .now) .number ≡ 0
+passed c = sym (ap (λ a. a .number) (c .before .before .read .ensures)) ∙ c .if2 .left
+
+writable : (c : tie.Else2) → let of = start (c .before .before .before .before) .args in
+    Writable (of .setting) (of .a .now) (of .b .now) (of .bias .now)
+writable c = passed-operands _ _ _ _ (setting (c .before .before .before)) (passed c)
+
+-- the ticket's length, and the output shorter than it, or not
 long : (c : tie.After-length) → c .length .result ≡ ticketLength (start (numbered c) .args .setting)
-long c = c .length .ensures ∙ ap ticketLength (unclamped (writable (c .before)))
+long c = c .length .ensures ∙ ap ticketLength (same (c .before .before .before .before))
+
+short : (c : tie.Then3) → length (start (numbered (c .before)) .args .output .now) < ticketLength (start (numbered (c .before)) .args .setting)
+short c = omega (arith, c .if3 .taken, long (c .before))
 
 room : (c : tie.Else3) → ticketLength (start (numbered (c .before)) .args .setting) ≤ length (start (numbered (c .before)) .args .output .now)
 room c = omega (arith, c .if3 .left, long (c .before))
 
+-- the place where the ticket is written
+abbrev output-tested : tie.After-products → tie.Else3
+output-tested c = c .before .before .before .before .before
+
+answered : (c : tie.After-products) → let G = start (numbered (output-tested c .before)) .args .setting in
+    answer 0 (ticketLength G) 0 (c .products .result) ≡ written G
+answered c =
+    ap (answer 0 (ticketLength _) 0)
+    (c .products .ensures ∙ ap sumProducts (same (output-tested c .before .before .before .before .before)))
+
 returns-3 : tie.Need-returns-3
-returns-3 c =
-    let short : length (start (numbered (c .before)) .args .output .now) < ticketLength (start (numbered (c .before)) .args .setting) =
-    omega (arith, c .if3 .taken, long (c .before)) in
-    refused _ _ _ _ _ (writing-of _ _ _ _ _ (output-short (writable (c .before .before)) short)) (λ z. omega arith)
+returns-3 c = refused _ _ _ _ _ (writing-of _ _ _ _ _ (output-short (writable (c .before .before)) (short c))) (λ z. omega arith)
 
 returns-4 : tie.Need-returns-4
 returns-4 c =
-    let else = c .before .before .before .before .before in
-    let w = writable (else .before .before) in
-    rw (long (else .before), c .products .ensures ∙ ap sumProducts (unclamped w))
-    (all-written _ _ _ _ _ w (room else) (c .before .before .before .write-ticket .ensures))
+    let else = output-tested c in
+    rw (long (else .before), answered c)
+    (all-written _ _ _ _ _ (writable (else .before .before)) (room else) (c .before .before .before .write-ticket .ensures))
 
 cast-place : tie.Need-cast-place
 cast-place c =
     let test = c .before .before .before .before .before in
-    let few = counts (limits (writable (test .before)) .sizes) in
+    let few = counts (limits-of _ (setting (test .before .before .before .before)) .sizes) in
     omega (arith, long test, length-most few, few)
 
 pub write-spec : {M : Type 1} → statement M
