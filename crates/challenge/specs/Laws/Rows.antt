@@ -4,7 +4,7 @@
 --   sidesEqual m n a w x u    w times x, with the offset m, is a times u, with the offset n
 --   rowAnswer m n a w d x z u τ i q   the answer of row i for vector number τ after q products, by these two sides, with row i of the bias
 --                             times z added to n
---   row-caught, row-balanced  an answer by the comparison of two numbers, as the code makes it
+--   row-caught, row-balanced  an answer by the comparison of the two sides, as the code makes it
 --   biasVector G x            what the bias is multiplied with: the vector, nothing where there is no bias
 --   rowAgrees G a w d x u i   row i of w times x, with the lift taken off, is row i of a times u, with the bound taken off, and row i of
 --                             the bias times x
