@@ -14,7 +14,7 @@ use mathlib.Core.Path.{_≡_, refl, sym, ap, _∙_}
 use mathlib.Core.Logic.{⊎-elim, _↔_}
 use mathlib.Core.List.{List, _++_}
 use lib.IntN.{ℤ, pos, natAbs}
-use lib.ListN.{length, getD, drop, length-append, length-drop}
+use lib.ListN.{length, getD, length-append, length-drop}
 use Rattle.ticket.specs.declared.setting.Setting.{Setting}
 use Rattle.ticket.specs.declared.Answer.{Answer}
 use Rattle.ticket.specs.Rules.{answer, refusal, settingTests, part, partSize, ofA, ofB, ofBias, biasBound, biasColumns, ticketLength}
@@ -22,7 +22,7 @@ use Rattle.ticket.specs.Laws.Layout.{parts-are}
 use Rattle.ticket.specs.Laws.Limits.{setting-numbered, SettingRow, setting-in-table}
 use Rattle.ticket.specs.Laws.Scans.{zeros-or-first}
 use Rattle.ticket.specs.Laws.Tests.{AllHold, hold-or-failed, failed-numbered}
-use Rattle.writer.specs.Rules.{beyondNumber, written, writing, ticketOf, outputAfter}
+use Rattle.writer.specs.Rules.{beyondNumber, written, writing, outputAfter}
 use Rattle.writer.specs.Laws.Answers.{Writable, Lengths, WriterAnswered, setting-failed, length-A-wrong, length-B-wrong, length-C-wrong, operand-beyond, bias-beyond, output-short, ticket-written, writable, writing-of, output-refused, output-written}
 use Rattle.writer.specs.Laws.Operands.{within-of, beyond-of}
 use Rattle.writer.specs.Laws.Records.{length-ticketOf}

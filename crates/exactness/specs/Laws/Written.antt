@@ -9,11 +9,11 @@
 --   written-accepted         the full check accepts it (W3)
 --   written-challenge-accepted   with it a list is accepted exactly when it is well formed (W3)
 --   only-ticket              a ticket of the same A, B and bias that the full check accepts is equal to it, byte for byte (W4)
-use Prim.Native.Nat.{ℕ, zero, suc, _+_, _-_, _*_, _/_, _%_, _^_, _≤_, _<_}
+use Prim.Native.Nat.{ℕ, _+_, _-_, _*_, _/_, _%_, _≤_, _<_}
 use native.Mathlib.Nat.{mul-le-mul-left, mod-lt, div-add-mod}
 use native.Mathlib.Decide.{decLe}
 use native.Mathlib.Omega.{arith}
-use mathlib.Core.Path.{_≡_, refl, sym, ap, _∙_}
+use mathlib.Core.Path.{_≡_, sym, ap, _∙_}
 use mathlib.Core.Logic.{_↔_, ⊎-elim}
 use mathlib.Core.Bool.{true}
 use mathlib.Core.List.{List}
@@ -26,22 +26,21 @@ use Rattle.residue.specs.Rules.{modulus, leastResidue, signedEntry}
 use Rattle.residue.specs.Laws.Integers.{positive, negative, equal-of-parts, parts-sum, parts-product, parts-within}
 use Rattle.residue.specs.Laws.Modulus.{modulus-above, modulus-positive}
 use Rattle.residue.specs.Laws.Residues.{residue-below, residue-sum, residue-of-residue, residue-close, entry-of-residue}
-use Rattle.algebra.specs.Rules.{floorDivision}
 use Rattle.algebra.specs.Laws.FloorDivision.{floor-left, floor-unique}
 use Rattle.algebra.specs.Laws.IntegerSums.{size-difference}
 use Rattle.algebra.specs.Laws.MatrixProducts.{matrixProduct-cong}
 use Rattle.ticket.specs.declared.setting.Setting.{Setting}
-use Rattle.ticket.specs.Rules.{reach, halfRange, lift, parts, part, start, records, recordBytes, ofA, ofB, ofBias, ofQuotients, ofRemainders, biasBound, biasColumns, recordTests, Passes, FalseIn, byteAt, valueAt, valueIn, entryA, entryB, entryBias, quotient, remainder, biasedSum, due, hasBias}
+use Rattle.ticket.specs.Rules.{reach, halfRange, parts, part, records, recordBytes, ofA, ofB, ofBias, ofQuotients, ofRemainders, biasBound, biasColumns, Passes, FalseIn, byteAt, valueAt, valueIn, entryA, entryB, entryBias, quotient, remainder, biasedSum, due, hasBias}
 use Rattle.ticket.specs.Laws.Differences.{claim-is, biasedSum-is, no-bias-entry, size-entryA, size-entryB, size-bias, residue-bias, size-quotient, small-remainder, residue-entryA, residue-entryB, residue-quotient, residue-remainder, claims-true}
 use Rattle.ticket.specs.Laws.Layout.{located-at, tests-located, value-in, part-A, part-B, part-bias, part-quotients, part-remainders, range-A, range-B, range-bias, range-quotients, range-remainders, every-part}
-use Rattle.ticket.specs.Laws.Limits.{counts, with-bias, bias-there, bias-small, half-small, half-double, lift-small}
+use Rattle.ticket.specs.Laws.Limits.{counts, with-bias, bias-there, bias-small, half-small, half-double}
 use Rattle.ticket.specs.Laws.First.{true-or-false}
 use Rattle.ticket.specs.Laws.Passes.{Passed, passed-of, passes-of, record-formed}
-use Rattle.ticket.specs.Laws.Tests.{AllHold, none, one}
+use Rattle.ticket.specs.Laws.Tests.{none, one}
 use Rattle.challenge.specs.Rules.{Accepted, WellFormed}
 use Rattle.soundness.specs.Laws.Demands.{accepted-exactly-well-formed}
 use Rattle.full.specs.Rules.{fullCheck, fullAccepted, FullAccepted}
-use Rattle.writer.specs.Rules.{writing, entryOf, sumFor, quotientOf, remainderOf, recordOf, integersOf, integerIn, ticketOf}
+use Rattle.writer.specs.Rules.{writing, entryOf, sumFor, quotientOf, remainderOf, integersOf, integerIn, ticketOf}
 use Rattle.writer.specs.Laws.Answers.{Writable}
 use Rattle.writer.specs.Laws.Claims.{claim-sum, remainder-left}
 use Rattle.writer.specs.Laws.Entries.{limits, size-A, size-B, size-C, no-bias, size-sumFor}

@@ -17,12 +17,12 @@ use mathlib.Core.Bool.{true, false, _&&_, and-false}
 use mathlib.Core.List.{List, [], _∷_}
 use borrow.Author.Tests.{le-leb, lt-leb, le-ltb}
 use lib.Dec.{leb, ltb}
-use lib.IntN.{ℤ, pos, _+ℤ_, +ℤ-idr}
+use lib.IntN.{ℤ, _+ℤ_, +ℤ-idr}
 use Rattle.residue.specs.Rules.{modulus, signedEntry}
 use Rattle.residue.specs.Laws.Modulus.{modulus-below}
 use Rattle.ticket.specs.declared.published.PlainSetting.{PlainSetting}
 use Rattle.ticket.specs.declared.setting.Setting.{Setting}
-use Rattle.ticket.specs.Rules.{test, firstFailed, plain, withBias, hasBias, biasBound, biasColumns, biasWithin, mostBiasBound, lift, sizesWithin, numbersWithin, fits, settingTests, settingNumber, parts, partSize, part, start, records, holder, ticketLength, ofA, ofB, ofBias, ofQuotients, ofRemainders, valueIn, entryA, entryB, entryBias, exactSum, biasedSum, due}
+use Rattle.ticket.specs.Rules.{test, firstFailed, plain, withBias, hasBias, biasBound, biasColumns, biasWithin, mostBiasBound, lift, sizesWithin, numbersWithin, fits, settingTests, settingNumber, parts, partSize, part, start, records, holder, ticketLength, ofA, ofB, ofBias, ofQuotients, ofRemainders, valueIn, entryA, entryB, exactSum, biasedSum, due}
 use Rattle.ticket.specs.Laws.Differences.{bias-entry, no-bias-entry}
 use Rattle.ticket.specs.Laws.Layout.{parts-are, held, length-is}
 use Rattle.ticket.specs.Laws.Limits.{Numbers, with-bias, without-bias, lift-double}

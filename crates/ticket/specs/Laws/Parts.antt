@@ -33,8 +33,8 @@ use Rattle.ticket.specs.declared.setting.Setting.{Setting}
 use Rattle.ticket.specs.declared.Answer.{Answer}
 use Rattle.ticket.specs.declared.records.Form.{Form}
 use Rattle.ticket.specs.Rules.{test, firstFailed, Part, parts, part, ofA, ofB, ofBias, ofQuotients, ofRemainders, biasBound, biasColumns, partSize, start, records, recordBytes, isEntry, isQuotient, shiftedQuotient, ticketLength, formed, valueAt, partTests, recordTests, recordNumber, refusal, firstRefusal}
-use Rattle.ticket.specs.Laws.Limits.{Numbers, Counts, Within, bias-small, half-small, half-double, clamped, clamped-same}
-use Rattle.ticket.specs.Laws.Layout.{parts-are, start-none, start-next, ends-within, start-past, holder-at, partBytes, part-bytes-long, form-of-part, value-of-part}
+use Rattle.ticket.specs.Laws.Limits.{Numbers, Counts, Within, bias-small, half-small, half-double}
+use Rattle.ticket.specs.Laws.Layout.{parts-are, start-none, start-next, ends-within, start-past, holder-at, partBytes, form-of-part, value-of-part}
 use Rattle.ticket.specs.Laws.Tests.{same-test}
 use Rattle.ticket.specs.Laws.Scans.{refusal-none, refusal-cong, refusal-split, after-passed, after-refused}
 use Rattle.ticket.specs.Laws.Answers.{scan-zero}

@@ -1,10 +1,8 @@
 use Prim.Native.Nat.{_≤_}
 use native.Mathlib.Omega.{arith}
-use mathlib.Core.Path.{_≡_, _∙_}
 use borrow.Author.Needs.{needs}
 use lib.ListN.{length}
 use Rattle.ticket.specs.Rules.{ticketLength}
-use Rattle.ticket.specs.Laws.Limits.{Within}
 use Rattle.writer.specs.Laws.Entries.{limits}
 use Rattle.writer.specs.Laws.Tickets.{ready-A, ready-B, ready-C, ticket-wrote}
 use Rattle.writer.proofs.write_ticket.Statement.{statement}

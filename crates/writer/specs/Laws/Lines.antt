@@ -19,7 +19,7 @@ use Rattle.residue.specs.Rules.{modulus, leastResidue}
 use Rattle.algebra.specs.Rules.{word}
 use Rattle.algebra.specs.Laws.Fills.{part-of}
 use Rattle.ticket.specs.declared.setting.Setting.{Setting}
-use Rattle.ticket.specs.Rules.{mostInner, recordBytes, part, start}
+use Rattle.ticket.specs.Rules.{mostInner, recordBytes, start}
 use Rattle.ticket.specs.Laws.Layout.{PartIs}
 use Rattle.writer.specs.Rules.{entryOf, integerIn, recordOf, ticketRecord}
 use Rattle.writer.specs.Laws.Operands.{SmallEntries}

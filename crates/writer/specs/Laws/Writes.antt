@@ -18,9 +18,9 @@ use native.Mathlib.Omega.{arith}
 use mathlib.Core.Path.{_≡_, refl, sym, ap, _∙_}
 use mathlib.Core.Logic.{_⊎_, inl, inr, ⊎-elim}
 use mathlib.Core.List.{List, _++_}
-use lib.ListN.{length, getD, take, drop, length-append, length-drop, List·getD-append}
+use lib.ListN.{length, getD, drop, length-append, length-drop, List·getD-append}
 use lib.Seq.{ext-getD, getD-append-add, getD-drop}
-use Rattle.algebra.specs.Laws.Fills.{Replaced, part-replaced}
+use Rattle.algebra.specs.Laws.Fills.{Replaced}
 use Rattle.ticket.specs.Rules.{recordBytes, byteAt}
 
 pub record RecordIs (bytes : List ℕ) (k : ℕ) (r : List ℕ) : Type 0 where

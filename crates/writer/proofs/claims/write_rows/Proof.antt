@@ -1,14 +1,11 @@
 -- The loop keeps the claims of the rows before this one in the output, and where its row of A and its records begin.
-use Prim.Native.Nat.{_+_, _-_, _*_, _≤_, _<_}
+use Prim.Native.Nat.{_-_, _<_}
 use native.Mathlib.Omega.{arith}
-use mathlib.Core.Path.{_≡_, sym, ap, _∙_}
+use mathlib.Core.Path.{_≡_, sym, _∙_}
 use borrow.Author.Needs.{needs}
-use lib.ListN.{length}
-use Rattle.residue.specs.Laws.Modulus.{modulus-below}
 use Rattle.residue.specs.Laws.Products.{product-below}
 use Rattle.algebra.specs.Laws.Fills.{part-long}
 use Rattle.ticket.specs.Rules.{lift}
-use Rattle.ticket.specs.Laws.Limits.{lift-small}
 use Rattle.writer.specs.Laws.Entries.{limits, lift-fits, long-B, small-A, small-B}
 use Rattle.writer.specs.Laws.Operands.{small-part}
 use Rattle.writer.specs.Laws.Rows.{RowsAt, RowRoom, ClaimsWrote, bias-ready, rows-begun, row-room, row-ready, rows-none, rows-next, rows-more}

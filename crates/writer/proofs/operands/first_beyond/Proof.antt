@@ -1,7 +1,7 @@
 -- The loop keeps that no entry before k is beyond the bound.
 use Prim.Native.Nat.{ℕ, _-_, _≤_, _<_}
 use native.Mathlib.Omega.{arith}
-use mathlib.Core.Path.{_≡_, sym, ap, _∙_}
+use mathlib.Core.Path.{_≡_, sym}
 use borrow.Author.Needs.{needs}
 use lib.IntN.{pos, natAbs}
 use lib.ListN.{length, getD}

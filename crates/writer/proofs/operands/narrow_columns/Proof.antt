@@ -1,5 +1,5 @@
 -- The loop keeps the columns before this one in the list, and in `start` where it begins.
-use Prim.Native.Nat.{ℕ, _+_, _-_, _*_, _≤_, _<_}
+use Prim.Native.Nat.{_+_, _-_, _*_, _≤_}
 use native.Mathlib.Omega.{arith}
 use mathlib.Core.Path.{_≡_, sym, ap, _∙_}
 use lib.Arith.{digits-div, digits-mod}
@@ -8,7 +8,6 @@ use lib.ListN.{length, take, drop}
 use Rattle.algebra.specs.Laws.Fills.{Filled, filled-none, filled-part, part-replaced, part-long}
 use Rattle.algebra.specs.Laws.Positions.{row-inside}
 use Rattle.exact.specs.Laws.Matrices.{turnedNumber}
-use Rattle.writer.specs.Laws.Operands.{columnOf}
 use Rattle.writer.proofs.operands.narrow_columns.Statement.{statement}
 use Rattle.writer.proofs.operands.narrow_columns.Tie as tie
 

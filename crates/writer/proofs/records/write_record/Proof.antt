@@ -1,11 +1,10 @@
 use Prim.Native.Nat.{_*_}
-use native.Mathlib.Omega.{arith}
 use mathlib.Core.Path.{_≡_, ap, _∙_}
 use borrow.Author.Needs.{needs}
 use lib.ListN.{length}
 use Rattle.algebra.specs.Laws.Fills.{part-replaced}
 use Rattle.ticket.specs.Rules.{recordBytes}
-use Rattle.writer.specs.Laws.Records.{wordsOf, length-words}
+use Rattle.writer.specs.Laws.Records.{length-words}
 use Rattle.writer.specs.Laws.Writes.{wrote-one, wrote-as}
 use Rattle.writer.proofs.records.write_record.Statement.{statement}
 use Rattle.writer.proofs.records.write_record.Tie as tie
