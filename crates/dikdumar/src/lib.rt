@@ -78,15 +78,15 @@ pub extern "C" fn dikdumar_write_bias_ticket(
     write(setting.setting, 1, setting.bias, a, b, bias, output)
 }
 
-// The full check of both kinds. What the caller lent is handed on as it came, and the setting made here, so that it is not copied on
-// the way.
+// The full check of both kinds. The setting is made here, of the numbers as they came, and the slice anew, so that the compiler copies
+// neither on the way.
 fn full_check(setting: PlainSetting, biased: u32, bias: u32, ticket: &[u8]) -> Answer
     ensures { λ r. ⌜ r ≡ fullCheck (numbered setting biased bias) (now (ticket .entry)) ⌝ }
 {
     full::check(setting.numbered(biased, bias), &ticket[0..])
 }
 
-// The writer of both kinds, likewise.
+// The writer of both kinds; the setting is made here likewise.
 fn write(
     setting: PlainSetting,
     biased: u32,
