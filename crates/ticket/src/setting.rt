@@ -2,9 +2,9 @@
 // limits they say what the limits come to, so that nothing wraps.
 ghost use mathlib.Core.Path.{_≡_};
 ghost use Prim.Native.Nat.{_*_, min};
-ghost use Rattle.ticket.specs.Rules.{unless, settingNumber, sizesWithin, numbersWithin, biasWithin, fits, within};
+ghost use Rattle.ticket.specs.Rules.{unless, sizesWithin, numbersWithin, biasWithin, within};
 ghost use Rattle.ticket.specs.Rules.{biasBound, biasColumns, part, partSize, start, ticketLength, halfRange, lift, sumProducts};
-ghost use Rattle.ticket.specs.Laws.Limits.{Sizes, Numbers, Clamped, clamped};
+ghost use Rattle.ticket.specs.Laws.Limits.{Sizes, Numbers, Clamped, clamped, fitsBy, numberBy};
 use crate::parts::RECORD;
 use residue::Residue;
 
@@ -67,17 +67,10 @@ impl Setting {
             + Setting::MOST_INNER * Setting::MOST_COLUMNS
             + 2 * (Setting::MOST_ROWS * Setting::MOST_COLUMNS)) as usize;
 
-    // The first of the tests 1, 2, 17 and 3 that the setting fails, 0 where it passes them.
-    pub fn number(self) -> u32
-        ensures { λ r. ⌜ r ≡ settingNumber self ⌝ }
-    {
-        self.number_of(self.half())
-    }
-
-    // The same, where half of the quotients' range is there already.
-    pub(crate) fn number_of(self, half: Residue) -> u32
-        requires { ⌜ half .0 ≡ halfRange (clamped self) ⌝ }
-        ensures { λ r. ⌜ r ≡ settingNumber self ⌝ }
+    // The first of the tests 1, 2, 17 and 3 that the setting fails, 0 where it passes them; by half of the quotients' range, which
+    // the caller has worked out.
+    pub fn number_of(self, half: Residue) -> u32
+        ensures { λ r. ⌜ r ≡ numberBy self (half .0) ⌝ }
     {
         if !self.sizes_within() {
             return 1;
@@ -237,8 +230,8 @@ impl Setting {
     }
 
     fn fits(self, half: Residue) -> bool
-        requires { ⌜ Sizes self × Numbers self × (half .0 ≡ halfRange (clamped self)) ⌝ }
-        ensures { λ r. ⌜ r ≡ fits self ⌝ }
+        requires { ⌜ Sizes self × Numbers self ⌝ }
+        ensures { λ r. ⌜ r ≡ fitsBy self (half .0) ⌝ }
     {
         let bound = self.bound as u64;
         let sum = (self.inner as u64) * (bound * bound);

@@ -1,17 +1,18 @@
 // The claims: quotient and remainder of each exact sum, and their records.
+ghost use mathlib.Core.Path.{_≡_};
 ghost use Prim.Native.Nat.{_≤_};
 ghost use lib.ListN.{length};
-ghost use Rattle.ticket.specs.Rules.{ticketLength};
+ghost use Rattle.ticket.specs.Rules.{halfRange, ticketLength};
+ghost use Rattle.ticket.specs.Laws.Limits.{clamped};
 ghost use Rattle.writer.specs.Laws.Answers.{Writable};
 ghost use Rattle.writer.specs.Laws.Claims.{Lifting, Claimed};
 ghost use Rattle.writer.specs.Laws.Rows.{ClaimsWrote, RowReady, Room, RowsReady, RowWrote};
-use crate::operands::add_bias;
+use crate::operands::with_bias;
 use crate::operands::narrow;
 use crate::operands::narrow_columns;
 use crate::records::COLUMN;
 use crate::records::write_record;
 use residue::Residue;
-use ticket::PartNumber;
 use ticket::Setting;
 
 // The most entries of B, and of a row of A; the most sums of a row. Where B has few entries, all is held in small arrays, which are
@@ -33,8 +34,9 @@ struct Claim {
 }
 
 // The records of all claims.
-pub(crate) fn write_claims(setting: Setting, a: &[i32], b: &[i32], bias: &[i32], output: &mut [u8])
-    requires { ⌜ Writable setting (now a) (now b) (now bias) × (ticketLength setting ≤ length (now output)) ⌝ }
+pub(crate) fn write_claims(setting: Setting, half: Residue, a: &[i32], b: &[i32], bias: &[i32], output: &mut [u8])
+    requires { ⌜ Writable setting (now a) (now b) (now bias) × (half .0 ≡ halfRange (clamped setting))
+        × (ticketLength setting ≤ length (now output)) ⌝ }
     ensures { λ r. ⌜ ClaimsWrote setting (now (a .entry)) (now (b .entry)) (now (bias .entry)) (setting .rows) (now (output .entry)) (now (output .exit)) ⌝ }
 {
     if b.len() <= TINY {
@@ -43,6 +45,7 @@ pub(crate) fn write_claims(setting: Setting, a: &[i32], b: &[i32], bias: &[i32],
         let mut sums = [0; TINY];
         write_with(
             setting,
+            half,
             a,
             b,
             bias,
@@ -59,6 +62,7 @@ pub(crate) fn write_claims(setting: Setting, a: &[i32], b: &[i32], bias: &[i32],
         let mut columns = [0; SMALL];
         write_with(
             setting,
+            half,
             a,
             b,
             bias,
@@ -72,6 +76,7 @@ pub(crate) fn write_claims(setting: Setting, a: &[i32], b: &[i32], bias: &[i32],
     let mut columns = [0; ENTRIES];
     write_with(
         setting,
+        half,
         a,
         b,
         bias,
@@ -85,6 +90,7 @@ pub(crate) fn write_claims(setting: Setting, a: &[i32], b: &[i32], bias: &[i32],
 // The same, with lists that have room for a row of A, for the columns of B and for the sums of a row.
 fn write_with(
     setting: Setting,
+    half: Residue,
     a: &[i32],
     b: &[i32],
     bias: &[i32],
@@ -93,14 +99,15 @@ fn write_with(
     sums: &mut [u32],
     output: &mut [u8],
 )
-    requires { ⌜ Writable setting (now a) (now b) (now bias) × (ticketLength setting ≤ length (now output))
-        × Room setting (length (now line)) (length (now columns)) (length (now sums)) ⌝ }
+    requires { ⌜ Writable setting (now a) (now b) (now bias) × (half .0 ≡ halfRange (clamped setting))
+        × (ticketLength setting ≤ length (now output)) × Room setting (length (now line)) (length (now columns)) (length (now sums)) ⌝ }
     ensures { λ r. ⌜ ClaimsWrote setting (now (a .entry)) (now (b .entry)) (now (bias .entry)) (setting .rows) (now (output .entry)) (now (output .exit)) ⌝ }
 {
     let inner = setting.inner as usize;
     let width = setting.columns as usize;
     write_rows(
         setting,
+        half,
         a,
         b,
         bias,
@@ -114,6 +121,7 @@ fn write_with(
 // The same, row after row, with lists as long as a row of A and its sums.
 fn write_rows(
     setting: Setting,
+    half: Residue,
     a: &[i32],
     b: &[i32],
     bias: &[i32],
@@ -122,28 +130,28 @@ fn write_rows(
     sums: &mut [u32],
     output: &mut [u8],
 )
-    requires { ⌜ RowsReady setting (now a) (now b) (now bias) (now line) (now columns) (now sums) (now output) ⌝ }
+    requires { ⌜ RowsReady setting (half .0) (now a) (now b) (now bias) (now line) (now columns) (now sums) (now output) ⌝ }
     ensures { λ r. ⌜ ClaimsWrote setting (now (a .entry)) (now (b .entry)) (now (bias .entry)) (setting .rows) (now (output .entry)) (now (output .exit)) ⌝ }
 {
-    let half = setting.half();
     let lift = setting.lift_of(half) as u32;
     let height = setting.rows as u8;
     let width = setting.columns as usize;
     narrow_columns(b, setting.inner as usize, width, columns);
-    let mut quotients = setting.start(PartNumber::QUOTIENTS) as usize;
-    let mut remainders = setting.start(PartNumber::REMAINDERS) as usize;
+    let mut quotients = a.len() + b.len() + bias.len();
+    let mut remainders = quotients + (height as usize) * width;
     let mut from = 0;
     let mut row = 0;
     while row < height {
         let end = from + line.len();
         narrow(&a[from..end], 1, 0, line);
         exact::row_sums(line, columns, sums);
-        add_bias(bias, (row as usize) * width, sums);
         write_row(
             setting,
             half,
             lift,
             row,
+            bias,
+            (row as usize) * width,
             sums,
             quotients,
             remainders,
@@ -156,25 +164,29 @@ fn write_rows(
     }
 }
 
-// The records of the claims for the sums of a row: the quotients from one record on, the remainders from another.
+// The records of the claims for the sums of a row, the bias of which begins at entry start: the quotients from one record on, the
+// remainders from another.
 fn write_row(
     setting: Setting,
     half: Residue,
     lift: u32,
     row: u8,
+    bias: &[i32],
+    start: usize,
     sums: &[u32],
     quotients: usize,
     remainders: usize,
     output: &mut [u8],
 )
-    requires { ⌜ RowReady setting (half .0) lift (now sums) quotients remainders (now output) ⌝ }
-    ensures { λ r. ⌜ RowWrote setting row (now (sums .entry)) quotients remainders (now (output .entry)) (now (output .exit)) ⌝ }
+    requires { ⌜ RowReady setting (half .0) lift (now bias) start (now sums) quotients remainders (now output) ⌝ }
+    ensures { λ r. ⌜ RowWrote setting (now (bias .entry)) row start (now (sums .entry)) quotients remainders (now (output .entry)) (now (output .exit)) ⌝ }
 {
     let mut quotient = ticket::word(3, 0, row, 0);
     let mut remainder = ticket::word(4, 0, row, 0);
     let mut column = 0;
     while column < sums.len() {
-        let claim = divide(setting, half, lift, sums[column]);
+        let sum = with_bias(bias, start + column, sums[column]);
+        let claim = divide(setting, half, lift, sum);
         write_record(output, quotients + column, quotient, claim.quotient);
         write_record(output, remainders + column, remainder, claim.remainder);
         quotient += COLUMN;

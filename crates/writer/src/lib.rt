@@ -3,9 +3,11 @@ ghost use mathlib.Core.Path.{_≡_};
 ghost use mathlib.Core.List.{_++_};
 ghost use Prim.Native.Nat.{_≤_};
 ghost use lib.ListN.{drop, length};
-ghost use Rattle.ticket.specs.Rules.{ticketLength};
+ghost use Rattle.ticket.specs.Rules.{halfRange, ticketLength};
+ghost use Rattle.ticket.specs.Laws.Limits.{clamped};
 ghost use Rattle.writer.specs.Rules.{outputAfter, ticketOf, writing};
 ghost use Rattle.writer.specs.Laws.Answers.{Writable};
+use residue::Residue;
 use ticket::Answer;
 use ticket::PartNumber;
 use ticket::Setting;
@@ -20,7 +22,8 @@ pub fn write(setting: Setting, a: &[i32], b: &[i32], bias: &[i32], output: &mut 
     ensures { λ r. ⌜ (r ≡ writing setting (now (a .entry)) (now (b .entry)) (now (bias .entry)) (length (now (output .entry))))
         × (now (output .exit) ≡ outputAfter setting (now (a .entry)) (now (b .entry)) (now (bias .entry)) (now (output .entry))) ⌝ }
 {
-    let number = setting.number();
+    let half = setting.half();
+    let number = setting.number_of(half);
     if number != 0 {
         return Answer {
             number,
@@ -42,7 +45,7 @@ pub fn write(setting: Setting, a: &[i32], b: &[i32], bias: &[i32], output: &mut 
             products: 0,
         };
     }
-    write_ticket(setting, a, b, bias, output);
+    write_ticket(setting, half, a, b, bias, output);
     let place = length as u32;
     Answer {
         number: 0,
@@ -54,12 +57,13 @@ pub fn write(setting: Setting, a: &[i32], b: &[i32], bias: &[i32], output: &mut 
 
 // The ticket, at the beginning of the output. The claims are written first: the records of the operands are then made while the
 // processor still divides.
-fn write_ticket(setting: Setting, a: &[i32], b: &[i32], bias: &[i32], output: &mut [u8])
-    requires { ⌜ Writable setting (now a) (now b) (now bias) × (ticketLength setting ≤ length (now output)) ⌝ }
+fn write_ticket(setting: Setting, half: Residue, a: &[i32], b: &[i32], bias: &[i32], output: &mut [u8])
+    requires { ⌜ Writable setting (now a) (now b) (now bias) × (half .0 ≡ halfRange (clamped setting))
+        × (ticketLength setting ≤ length (now output)) ⌝ }
     ensures { λ r. ⌜ now (output .exit) ≡ ticketOf setting (now (a .entry)) (now (b .entry)) (now (bias .entry))
         ++ drop (ticketLength setting) (now (output .entry)) ⌝ }
 {
-    claims::write_claims(setting, a, b, bias, output);
+    claims::write_claims(setting, half, a, b, bias, output);
     let height = setting.rows as u8;
     let inner = setting.inner as u8;
     let width = setting.columns as usize;

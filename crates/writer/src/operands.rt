@@ -12,7 +12,7 @@ ghost use Rattle.ticket.specs.Laws.All.{all};
 ghost use Rattle.ticket.specs.Laws.Limits.{Within};
 ghost use Rattle.writer.specs.Rules.{beyondNumber, operandsReading};
 ghost use Rattle.writer.specs.Laws.Answers.{lengthsReading};
-ghost use Rattle.writer.specs.Laws.Operands.{withinAt, columnOf, BiasAdded, BiasReady, NarrowReady, TurnReady};
+ghost use Rattle.writer.specs.Laws.Operands.{withinAt, columnOf, BiasReady, NarrowReady, TurnReady, biasedWord};
 use ticket::Answer;
 use ticket::PartNumber;
 use ticket::Setting;
@@ -130,20 +130,15 @@ fn magnitude(n: i32) -> u32
     wide as u32
 }
 
-// A row of the bias, from entry start on, added to the sums of that row modulo 2^32; nothing is, where there is no bias.
-pub(crate) fn add_bias(bias: &[i32], start: usize, sums: &mut [u32])
-    requires { ⌜ BiasReady (now bias) start (now sums) ⌝ }
-    ensures { λ r. ⌜ BiasAdded (now (bias .entry)) start (now (sums .entry)) (now (sums .exit)) ⌝ }
+// A sum with entry k of the bias added, modulo 2^32; the sum itself, where there is no bias.
+pub(crate) fn with_bias(bias: &[i32], k: usize, sum: u32) -> u32
+    requires { ⌜ BiasReady (now bias) k 1 ⌝ }
+    ensures { λ r. ⌜ r ≡ biasedWord (now (bias .entry)) k sum ⌝ }
 {
     if bias.len() == 0 {
-        return;
+        return sum;
     }
-    let mut j = 0;
-    while j < sums.len() {
-        let entry = low_word(bias[start + j]);
-        sums[j] = std::num::wrapping_add_u32(sums[j], entry);
-        j += 1;
-    }
+    std::num::wrapping_add_u32(sum, low_word(bias[k]))
 }
 
 // A number modulo 2^32.

@@ -7,13 +7,16 @@ ghost use Rattle.residue.specs.Rules.{modulus, leastResidue};
 ghost use Rattle.ticket.specs.Rules.{recordBytes};
 ghost use Rattle.writer.specs.Laws.Records.{wordsOf};
 ghost use Rattle.writer.specs.Laws.Writes.{Among, Wrote};
-ghost use Rattle.writer.specs.Laws.Lines.{LineReady, LineWrote, OperandReady, OperandWrote};
+ghost use Rattle.writer.specs.Laws.Lines.{FewReady, LineReady, LineWrote, OperandReady, OperandWrote};
 use residue::Entry;
 use residue::Residue;
 use ticket::RECORD;
 
 // By how much the first word of a record grows from one column to the next.
 pub(crate) const COLUMN: u32 = 16_777_216;
+
+// Operands of at most so many entries are written one by one: their rows are not worth the several at a time.
+const FEW: usize = 8;
 
 // The records of an operand, from record start of the output on.
 pub(crate) fn write_operand(
@@ -25,8 +28,12 @@ pub(crate) fn write_operand(
     operand: &[i32],
 )
     requires { ⌜ OperandReady start height width (now operand) (now output) ⌝ }
-    ensures { λ r. ⌜ OperandWrote kind height width start (now (operand .entry)) (now (output .entry)) (now (output .exit)) ⌝ }
+    ensures { λ r. ⌜ OperandWrote kind width start (now (operand .entry)) (now (output .entry)) (now (output .exit)) ⌝ }
 {
+    if operand.len() <= FEW {
+        write_few(output, start, kind, width, operand);
+        return;
+    }
     let mut first = 0;
     let mut row = 0;
     while row < height {
@@ -34,6 +41,29 @@ pub(crate) fn write_operand(
         write_line(output, start + first, kind, row, &operand[first..end]);
         first = end;
         row += 1;
+    }
+}
+
+// The same, record after record, of an operand of few entries.
+fn write_few(output: &mut [u8], start: usize, kind: u8, width: usize, operand: &[i32])
+    requires { ⌜ FewReady start width (now operand) (now output) ⌝ }
+    ensures { λ r. ⌜ OperandWrote kind width start (now (operand .entry)) (now (output .entry)) (now (output .exit)) ⌝ }
+{
+    let mut row = 0;
+    let mut header = ticket::word(kind, 0, row, 0);
+    let mut column = 0;
+    let mut k = 0;
+    while k < operand.len() {
+        let value = residue(Entry(operand[k]));
+        write_record(output, start + k, header, value);
+        k += 1;
+        column += 1;
+        header += COLUMN;
+        if column == width {
+            column = 0;
+            row += 1;
+            header = ticket::word(kind, 0, row, 0);
+        }
     }
 }
 

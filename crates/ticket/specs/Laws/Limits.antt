@@ -22,6 +22,8 @@
 --   bias-small             so is twice the bound of its bias
 --   clamped G              the setting with no size, scale or width above its limit
 --   clamped-same           that is the setting itself, where it is within its limits
+--   fitsBy G h, numberBy G h   the fit and the number of the setting, where h is put for half of the quotients' range
+--   number-by              by that half it is the setting's number
 --   Clamped G, clamped-small   the width of a clamped setting is not large, nor are products of its numbers
 use Prim.Native.Nat.{ℕ, suc, _+_, _-_, _*_, _^_, _≤_, _<_, min}
 use native.Mathlib.Nat.{le-trans, mul-le-mul, pow-suc, min-eq-left, min-le-right}
@@ -30,10 +32,11 @@ use mathlib.Core.Path.{_≡_, refl, sym, ap, _∙_}
 use mathlib.Core.Bool.{Bool, true, false, true≢false, _&&_, and-eq-true-iff}
 use mathlib.Core.Logic.{inl, inr, ⊎-elim}
 use borrow.Author.Tests.{leb-true, ltb-true, le-leb, lt-ltb, le-ltb}
+use lib.Dec.{leb, ltb}
 use lib.Pow.{pow-mono}
 use Rattle.residue.specs.Rules.{modulus}
 use Rattle.ticket.specs.declared.setting.Setting.{Setting}
-use Rattle.ticket.specs.Rules.{within, mostRows, mostInner, mostColumns, mostVectors, mostScale, mostBound, mostWidth, mostBiasBound, biasWithin, reach, halfRange, lift, sizesWithin, numbersWithin, fits, settingTests, settingNumber, sumProducts, hasBias, biasBound, biasColumns}
+use Rattle.ticket.specs.Rules.{unless, firstFailed, within, mostRows, mostInner, mostColumns, mostVectors, mostScale, mostBound, mostWidth, mostBiasBound, biasWithin, reach, halfRange, lift, sizesWithin, numbersWithin, fits, settingTests, settingNumber, sumProducts, hasBias, biasBound, biasColumns}
 use Rattle.ticket.specs.Laws.First.{true-or-false}
 use Rattle.ticket.specs.Laws.Tests.{AllHold, Failed, here, later, first-holds, rest-hold, Numbered, tests-hold}
 
@@ -62,7 +65,7 @@ pub record Fitted (G : Setting) : Type 0 where
 pub record FitProducts (G : Setting) : Type 0 where
   pub square : G .bound * G .bound ≤ mostBound * mostBound
   pub sums : G .inner * (G .bound * G .bound) ≤ mostInner * (mostBound * mostBound)
-  pub lifted : lift G ≤ 2 ^ 29 * mostScale
+  pub lifted : (half : ℕ) → half ≤ 2 ^ 32 → half * G .scale ≤ 2 ^ 32 * mostScale
 
 -- the records of A, of B and of the claims, and the numbers of a challenge list: none are many
 pub record Counts (G : Setting) : Type 0 where
@@ -174,7 +177,7 @@ half-double {G} numbers =
 pub fit-products : {G : Setting} → Sizes G → Numbers G → FitProducts G
 fit-products sizes numbers =
     let square = mul-le-mul (numbers .bound .1) (numbers .bound .1) in
-    record { square = square; sums = mul-le-mul (sizes .inner .1) square; lifted = mul-le-mul (half-small numbers) (numbers .scale .1) }
+    record { square = square; sums = mul-le-mul (sizes .inner .1) square; lifted = λ half l. mul-le-mul l (numbers .scale .1) }
 
 pub lift-double : {G : Setting} → Numbers G → 2 * lift G ≡ 2 ^ G .width * G .scale
 lift-double {G} numbers = omega (arith, ap (λ n. n * G .scale) (half-double numbers))
@@ -206,6 +209,22 @@ unfolding clamped
 clamped-same {G} sizes numbers =
     rw (min-eq-left (sizes .rows .1), min-eq-left (sizes .inner .1), min-eq-left (sizes .columns .1))
     (rw (min-eq-left (numbers .scale .1), min-eq-left (numbers .width .1)))
+
+abbrev pub fitsBy : Setting → ℕ → Bool
+fitsBy G half = leb (reach G + G .scale - 1) (half * G .scale) && ltb (2 * (half * G .scale)) modulus
+
+unfoldable pub numberBy : Setting → ℕ → ℕ
+numberBy G half = unless (sizesWithin G) 1 (unless (numbersWithin G) 2 (unless (biasWithin G) 17 (unless (fitsBy G half) 3 0)))
+
+pub number-by : (G : Setting) {half : ℕ} → half ≡ halfRange (clamped G) → numberBy G half ≡ settingNumber G
+unfolding numberBy settingTests firstFailed fits
+number-by G half-is =
+    ⊎-elim
+    (λ sizes. ⊎-elim
+    (λ numbers. let same : clamped G ≡ G = clamped-same (sizes-of G sizes) (numbers-of G numbers) in
+    rw (half-is, same, lift-double (numbers-of G numbers)))
+    (λ e. rw e) (true-or-false (numbersWithin G)))
+    (λ e. rw e) (true-or-false (sizesWithin G))
 
 pub record Clamped (G : Setting) : Type 0 where
   pub entries-A : G .rows * G .inner ≤ mostRows * mostInner

@@ -3,10 +3,10 @@ use native.Mathlib.Omega.{arith}
 use mathlib.Core.Path.{_≡_, sym, ap, _∙_}
 use borrow.Author.Needs.{needs}
 use lib.ListN.{length}
-use Rattle.ticket.specs.Rules.{answer, settingTests, ticketLength, sumProducts}
+use Rattle.ticket.specs.Rules.{answer, settingNumber, settingTests, ticketLength, sumProducts}
 use Rattle.ticket.specs.Laws.Layout.{length-most}
-use Rattle.ticket.specs.Laws.Limits.{setting-numbered, limits-of, clamped, clamped-same, counts}
-use Rattle.ticket.specs.Laws.Tests.{AllHold, tests-hold}
+use Rattle.ticket.specs.Laws.Limits.{setting-holds, number-by, limits-of, clamped, clamped-same, counts}
+use Rattle.ticket.specs.Laws.Tests.{AllHold}
 use Rattle.writer.specs.Rules.{operandsReading, written}
 use Rattle.writer.specs.Laws.Answers.{Writable, output-short, writing-of, setting-refused, operands-refused, passed-operands}
 use Rattle.writer.specs.Laws.Tickets.{refused, all-written}
@@ -14,14 +14,17 @@ use Rattle.writer.proofs.write.Statement.{statement}
 use Rattle.writer.proofs.write.Tie as tie
 
 -- the call's places: it begins, the setting's number is there, the setting passes, the operands do
-abbrev start : tie.After-number → tie.Start
-start c = c .before .before
+abbrev start : tie.After-number-of → tie.Start
+start c = c .before .before .before
 
-abbrev numbered : tie.After-length → tie.After-number
+abbrev numbered : tie.After-length → tie.After-number-of
 numbered c = c .before .before .before .before .before
 
+number : (c : tie.After-number-of) → settingNumber (start c .args .setting) ≡ c .number-of .result
+number c = sym (c .number-of .ensures ∙ number-by _ (c .before .half .ensures))
+
 setting : (c : tie.Else1) → AllHold (settingTests (start (c .before) .args .setting))
-setting c = tests-hold _ (setting-numbered _) (sym (c .before .number .ensures) ∙ c .if1 .left)
+setting c = setting-holds _ (number (c .before) ∙ c .if1 .left)
 
 same : (c : tie.Else1) → clamped (start (c .before) .args .setting) ≡ start (c .before) .args .setting
 same c =
@@ -74,9 +77,9 @@ cast-place c =
 pub write-spec : {M : Type 1} → statement M
 write-spec =
     tie.close
-    (tie.spec (λ c κs. search needs) (λ c. refused _ _ _ _ _ (setting-refused _ _ _ _ _ (sym (c .before .number .ensures)) (c .if1 .taken)) (c .if1 .taken))
+    (tie.spec (λ c κs. search needs) (λ c κs. search needs) (λ c. refused _ _ _ _ _ (setting-refused _ _ _ _ _ (number (c .before)) (c .if1 .taken)) (c .if1 .taken))
     (λ c κs. limits-of _ (setting c))
     (λ c. let read = c .before .before in
     refused _ _ _ _ _ (operands-refused _ _ _ _ _ (setting (read .before)) (sym (read .read .ensures)) (c .if2 .taken)) (c .if2 .taken))
-    (λ c κs. search needs) returns-3 (λ c κs. (writable (c .before .before .before), room (c .before))) cast-place (λ c κs. search needs)
+    (λ c κs. search needs) returns-3 (λ c κs. (writable (c .before .before .before), numbered (c .before .before) .before .half .ensures, room (c .before))) cast-place (λ c κs. search needs)
     (λ c. search needs) returns-4)

@@ -23,8 +23,8 @@ abbrev starts : tie.After-write-operand → tie.After-start3
 starts c = c .before .before
 
 -- the output keeps its length
-room-A : (c : tie.After-start3) → ticketLength (begun c .args .setting) ≤ length (claimed c .write-claims .last .1 .1 .1 .1 .0)
-room-A c = omega (arith, claimed c .write-claims .ensures .long, begun c .pre .1)
+room-A : (c : tie.After-start3) → ticketLength (begun c .args .setting) ≤ length (claimed c .write-claims .last .1 .1 .1 .1 .1 .0)
+room-A c = omega (arith, claimed c .write-claims .ensures .long, begun c .pre .2)
 
 room-B : (c : tie.After-write-operand) → ticketLength (begun (starts c) .args .setting) ≤ length (c .write-operand .last .0)
 room-B c = omega (arith, c .write-operand .ensures .long, room-A (starts c))
@@ -37,7 +37,7 @@ returns c =
     let in-C = c .before .before in
     let in-B = in-C .before .before .before .before .before in
     let at = starts (in-A in-B) in
-    ticket-wrote (begun at .pre .0) (begun at .pre .1) (claimed at .write-claims .ensures) (at .before .before .start .ensures)
+    ticket-wrote (begun at .pre .0) (begun at .pre .2) (claimed at .write-claims .ensures) (at .before .before .start .ensures)
     (in-A in-B .write-operand .ensures) (at .before .start2 .ensures) (in-B .write-operand2 .ensures) (at .start3 .ensures)
     (rw (in-C .before .before .bias-columns .ensures) at (in-C .write-operand3 .ensures))
 

@@ -14,8 +14,8 @@
 --   columnOf x n j k  entry k of column j of a matrix x of n columns
 --   NarrowReady x n j l   x has such entries, and l has room for that column
 --   TurnReady x m n l     x has m rows and n columns of such entries, and l has room for them all
---   BiasReady C a s   a row of the bias C from entry a on is as long as the sums s
---   addedCount C s, addedAt C a s j, BiasAdded C a s s'   s' is the sums s with that row added modulo 2^32, where there is a bias
+--   BiasReady C a n   the bias C has n entries from entry a on, or none at all
+--   biasedWord C k s, no-bias-word   the sum s with entry k of the bias added modulo 2^32, which is s where there is none
 --   low-negative, low-positive   a number modulo 2^32, from its absolute value
 --   size-small        the absolute value of a 32-bit number
 --   magnitude-negative, magnitude-fits, magnitude-positive   that value of a number below zero, and of another
@@ -31,7 +31,7 @@ use borrow.Author.Tests.{le-leb, lt-leb, leb-true, ltb-true}
 use lib.Dec.{leb, eqb}
 use lib.Pow.{pow-mono}
 use lib.IntN.{ℤ, pos, negsuc, natAbs, _+ℤ_, _-ℤ_}
-use lib.ListN.{length, getD, take, drop, length-append, List·getD-append}
+use lib.ListN.{length, getD, take, drop, length-append, List·getD-append, List·getD-eq-default}
 use lib.Seq.{getD-append-add}
 use lib.Signed.{mag, ltZ}
 use mir.Syntax.{w16, w32, w64}
@@ -156,18 +156,16 @@ pub record TurnReady (matrix : List ℤ) (height width : ℕ) (list : List ℤ) 
 
 -- the bias
 
-pub record BiasReady (C : List ℤ) (start : ℕ) (sums : List ℕ) : Type 0 where
-  pub inside : (length C ≡ 0 → ⊥) → start + length sums ≤ length C
+pub record BiasReady (C : List ℤ) (start n : ℕ) : Type 0 where
+  pub inside : (length C ≡ 0 → ⊥) → start + n ≤ length C
 
--- how many sums a row of the bias is added to
-abbrev pub addedCount : List ℤ → List ℕ → ℕ
-addedCount C sums = cond (eqb (length C) 0) 0 (length sums)
+abbrev pub biasedWord : List ℤ → ℕ → ℕ → ℕ
+biasedWord C k sum = (sum + leastResidue (2 ^ 32) (getD C k (pos 0))) % 2 ^ 32
 
-abbrev pub addedAt : List ℤ → ℕ → List ℕ → ℕ → ℕ
-addedAt C start sums j = (getD sums j 0 + leastResidue (2 ^ 32) (getD C (start + j) (pos 0))) % 2 ^ 32
-
-abbrev pub BiasAdded : List ℤ → ℕ → List ℕ → List ℕ → Type 0
-BiasAdded C start sums after = Filled 0 sums (addedCount C sums) (addedAt C start sums) after
+pub no-bias-word : (C : List ℤ) (k sum : ℕ) → length C ≡ 0 → sum < 2 ^ 32 → sum ≡ biasedWord C k sum
+no-bias-word C k sum none small =
+    let zero = residue-of-residue (2 ^ 32) (omega arith) 0 (omega arith) in
+    rw (List·getD-eq-default C (pos 0) {n = k} (omega arith), zero) (omega arith)
 
 -- absolute values and least residues
 

@@ -1,18 +1,21 @@
 -- The records of the claims, row by row, as the code writes them.
 --
---   RowReady G h l s q r o     the sums s are those of a whole row, and o has room for their claims, from records q and r on
---   RowOf G A B C i s q r        s is the sums of row i of A, modulo 2^32, and q and r are where the claims of row i begin
---   RowTo G i s q r n o o'     the first n claims of the row are written, whatever operands these are of
---   RowWrote G i s q r o o'    all are
+--   RowReady G h l C a s q r o   the sums s are those of a whole row, which has its bias in C from entry a on, and o has room for their
+--                                claims, from records q and r on
+--   RowOf G A B C i a s q r      s is the sums of row i of A, modulo 2^32, and a, q and r are where its bias and its claims begin
+--   row-sum                      a sum of the row with the bias added is what its claim is made for
+--   RowTo G C i a s q r n o o'   the first n claims of the row are written, whatever operands these are of
+--   RowWrote G C i a s q r o o'  all are
 --   row-none, row-claim        no claim of the row is written yet, and one more
 --   Room G a b c               lists of a, b and c numbers have room for a row of A, for the columns of B and for the sums of a row
 --   tiny-room, most-room       so have lists as long as B, and the longest
 --   most-entries               how many entries B has at most
---   RowsReady G A B C x Y s o    A and B are to be written; there is room for a row of A, for the columns of B, for sums and for the ticket
+--   RowsReady G h A B C x Y s o   A and B are to be written, h is half of the quotients' range; there is room for a row of A, for the columns of B, for sums and for the ticket
 --   RowsAt G i a x s q r       before row i: its entries begin at a, its claims at the records q and r, and x and s have room for the row
 --   RowRoom G A i a x q r      row i is inside A, and the records of its claims come early
 --   ClaimsWrote G A B C n o o'   the claims of the first n rows are written
---   bias-ready                 a row of the bias can be added to the sums of that row
+--   bias-ready                 the bias has a row for each of A, or none at all
+--   claims-early               the claims come early in the ticket
 --   rows-begun, row-room, row-ready, rows-none, rows-next, rows-more   before the first row, before each, and after it
 use Prim.Native.Nat.{ℕ, _+_, _-_, _*_, _^_, _≤_, _<_}
 use native.Mathlib.Nat.{mul-le-mul-left, mul-le-mul-right}
@@ -42,67 +45,78 @@ use Rattle.writer.specs.Rules.{entryOf, sumFor, quotientOf, remainderOf,
 use Rattle.writer.specs.Laws.Answers.{Writable}
 use Rattle.writer.specs.Laws.Claims.{Lifting, Claimed, lifting-of, quotient-true, remainder-true}
 use Rattle.writer.specs.Laws.Entries.{limits, unclamped, long-A, long-B, long-C, no-bias, size-sumFor}
-use Rattle.writer.specs.Laws.Operands.{columnOf, BiasReady, BiasAdded}
-use Rattle.writer.specs.Laws.Records.{wordsOf, words-record, record-named, integer-quotient, integer-remainder}
+use Rattle.writer.specs.Laws.Lines.{words-named}
+use Rattle.writer.specs.Laws.Operands.{columnOf, BiasReady, biasedWord}
+use Rattle.writer.specs.Laws.Records.{wordsOf, integer-quotient, integer-remainder}
 use Rattle.writer.specs.Laws.Writes.{Wrote, Among, Both, wrote-none, wrote-as, wrote-both, both-on}
 
-pub record RowReady (G : Setting) (half lifting : ℕ) (sums : List ℕ) (quotients remainders : ℕ) (output : List ℕ) : Type 0 where
+pub record RowReady (G : Setting) (half lifting : ℕ) (C : List ℤ) (from : ℕ) (sums : List ℕ) (quotients remainders : ℕ) (output : List ℕ) : Type 0 where
   pub lifts : Lifting G half lifting
+  pub bias : BiasReady C from (G .columns)
+  pub early : from < 2 ^ 16
   pub long-sums : length sums ≡ G .columns
   pub few : G .columns ≤ mostColumns
   pub room-quotients : recordBytes * (quotients + G .columns) ≤ length output
   pub room-remainders : recordBytes * (remainders + G .columns) ≤ length output
 
-pub record RowOf (G : Setting) (A B C : List ℤ) (row : ℕ) (sums : List ℕ) (quotients remainders : ℕ) : Type 0 where
+pub record RowOf (G : Setting) (A B C : List ℤ) (row from : ℕ) (sums : List ℕ) (quotients remainders : ℕ) : Type 0 where
   pub writable : Writable G A B C
   pub within : row < G .rows
-  pub sums-are : (j : ℕ) → j < G .columns → getD sums j 0 ≡ leastResidue (2 ^ 32) (sumFor G A B C row j)
+  pub sums-are : (j : ℕ) → j < G .columns
+      → getD sums j 0 ≡ leastResidue (2 ^ 32) (matrixProduct (G .inner) (entryOf (G .inner) A) (entryOf (G .columns) B) row j)
+  pub from-is : from ≡ row * G .columns
   pub quotients-at : quotients ≡ start G ofQuotients + row * G .columns
   pub remainders-at : remainders ≡ start G ofRemainders + row * G .columns
 
 -- up to column n
-abbrev pub RowTo : Setting → ℕ → List ℕ → ℕ → ℕ → ℕ → List ℕ → List ℕ → Type 0
-RowTo G row sums quotients remainders n before after =
-    (A B C : List ℤ) → RowOf G A B C row sums quotients remainders → Wrote (ticketRecord G A B C) (Both quotients remainders n) before after
+abbrev pub RowTo : Setting → List ℤ → ℕ → ℕ → List ℕ → ℕ → ℕ → ℕ → List ℕ → List ℕ → Type 0
+RowTo G C row from sums quotients remainders n before after =
+    (A B : List ℤ) → RowOf G A B C row from sums quotients remainders → Wrote (ticketRecord G A B C) (Both quotients remainders n) before after
 
-pub record RowWrote (G : Setting) (row : ℕ) (sums : List ℕ) (quotients remainders : ℕ) (before after : List ℕ) : Type 0 where
+pub record RowWrote (G : Setting) (C : List ℤ) (row from : ℕ) (sums : List ℕ) (quotients remainders : ℕ) (before after : List ℕ) : Type 0 where
   pub long : length after ≡ length before
-  pub wrote : RowTo G row sums quotients remainders (G .columns) before after
+  pub wrote : RowTo G C row from sums quotients remainders (G .columns) before after
 
--- a record of the claims, by its words
-claim-record : (G : Setting) (A B C : List ℤ) {w kind : ℕ} → PartIs G w kind (G .rows) (G .columns)
-    → {row column first header value : ℕ} → row < G .rows → column < G .columns → first ≡ start G w + row * G .columns
-    → kind < 256 → row < 256 → column < 256 → header ≡ word kind 0 row column → value ≡ leastResidue modulus (integerIn G A B C w row column)
-    → (k : ℕ) → Among (first + column) 1 k → wordsOf header value ≡ ticketRecord G A B C k
-claim-record G A B C {kind = kind} is {row} {column} {value = value} l m first-is small-kind small-row small-column header-is value-is k a =
-    words-record kind row column value small-kind small-row small-column header-is
-    ∙ record-named G A B C is l m value-is (omega (arith, a .from, a .below))
+-- an entry of the bias, in a list that has none where there is no bias
+bias-entry : {G : Setting} {A B C : List ℤ} → Writable G A B C → (row j : ℕ) → getD C (row * G .columns + j) (pos 0) ≡ entryOf (biasColumns G) C row j
+bias-entry {G} {C = C} w row j =
+    ⊎-elim (λ e. ap (λ n. getD C (row * n + j) (pos 0)) (sym (with-bias G e .1)))
+    (λ e. no-bias w e (row * G .columns + j) ∙ sym (no-bias w e (row * biasColumns G + j)))
+    (true-or-false (hasBias G))
 
-module _ {G : Setting} {row : ℕ} {sums : List ℕ} {quotients remainders : ℕ} where
-  pub row-none : {before : List ℕ} → RowTo G row sums quotients remainders 0 before before
-  row-none A B C of = wrote-none (λ k. ⊎-elim (λ a. omega (arith, a .from, a .below)) (λ a. omega (arith, a .from, a .below)))
+row-sum : {G : Setting} {A B C : List ℤ} {row from quotients remainders : ℕ} {sums : List ℕ} → RowOf G A B C row from sums quotients remainders
+    → (j : ℕ) → j < G .columns → biasedWord C (from + j) (getD sums j 0) ≡ leastResidue (2 ^ 32) (sumFor G A B C row j)
+row-sum {G} {A} {B} {C} {row} of j l =
+    let P = matrixProduct (G .inner) (entryOf (G .inner) A) (entryOf (G .columns) B) row j in
+    rw (of .sums-are j l, of .from-is, bias-entry (of .writable) row j)
+    (sym (residue-sum (2 ^ 32) (omega arith) P (entryOf (biasColumns G) C row j))
+    ∙ ap (leastResidue (2 ^ 32)) (sym (biasedSum-is G (entryOf (G .inner) A) (entryOf (G .columns) B) (entryOf (biasColumns G) C) row j)))
+
+module _ {G : Setting} {C : List ℤ} {row from : ℕ} {sums : List ℕ} {quotients remainders : ℕ} where
+  pub row-none : {before : List ℕ} → RowTo G C row from sums quotients remainders 0 before before
+  row-none A B of = wrote-none (λ k. ⊎-elim (λ a. omega (arith, a .from, a .below)) (λ a. omega (arith, a .from, a .below)))
 
   pub row-claim : {half lifting : ℕ} {before output between after : List ℕ} {column q r x y : ℕ}
-      → RowReady G half lifting sums quotients remainders before → row < 256 → column < length sums
-      → RowTo G row sums quotients remainders column before output → Claimed G (getD sums column 0) q r
+      → RowReady G half lifting C from sums quotients remainders before → row < 256 → column < length sums
+      → RowTo G C row from sums quotients remainders column before output → Claimed G (biasedWord C (from + column) (getD sums column 0)) q r
       → x ≡ word 3 0 row column → y ≡ word 4 0 row column → Wrote (λ k. wordsOf x q) (Among (quotients + column) 1) output between
       → Wrote (λ k. wordsOf y r) (Among (remainders + column) 1) between after
-      → RowTo G row sums quotients remainders (column + 1) before after
+      → RowTo G C row from sums quotients remainders (column + 1) before after
   unfolding quotientOf remainderOf
-  row-claim {column = column} ready small l so-far claimed x-is y-is first second A B C of =
+  row-claim {column = column} ready small l so-far claimed x-is y-is first second A B of =
       let m : column < G .columns = omega (arith, ready .long-sums) in
       let within = limits (of .writable) in
       let S = sumFor G A B C row column in
       let size = size-sumFor (of .writable) row column (of .within) m in
-      let quotient = claimed .quotient-is ∙ quotient-true (within .numbers) (within .fitted) S size (of .sums-are column m)
+      let quotient = claimed .quotient-is ∙ quotient-true (within .numbers) (within .fitted) S size (row-sum of column m)
       ∙ ap (leastResidue modulus) (sym (integer-quotient G A B C row column)) in
-      let remainder = claimed .remainder-is ∙ remainder-true (within .numbers) (within .fitted) S size (of .sums-are column m)
+      let remainder = claimed .remainder-is ∙ remainder-true (within .numbers) (within .fitted) S size (row-sum of column m)
       ∙ ap (leastResidue modulus) (sym (integer-remainder G A B C row column)) in
       let few : column < 256 = omega (arith, ready .few) in
-      both-on (so-far A B C of)
+      both-on (so-far A B of)
       (wrote-both
-      (wrote-as first (claim-record G A B C (part-quotients G) (of .within) m (of .quotients-at) (omega arith) small few x-is quotient))
-      (wrote-as second (claim-record G A B C (part-remainders G) (of .within) m (of .remainders-at) (omega arith) small few y-is remainder)))
+      (wrote-as first (words-named G A B C (part-quotients G) (of .within) m (of .quotients-at) (omega arith) small few x-is quotient))
+      (wrote-as second (words-named G A B C (part-remainders G) (of .within) m (of .remainders-at) (omega arith) small few y-is remainder)))
 
 -- all rows
 
@@ -111,8 +125,9 @@ pub record Room (G : Setting) (line columns sums : ℕ) : Type 0 where
   pub for-columns : G .inner * G .columns ≤ columns
   pub for-sums : G .columns ≤ sums
 
-pub record RowsReady (G : Setting) (A B C line columns : List ℤ) (sums output : List ℕ) : Type 0 where
+pub record RowsReady (G : Setting) (half : ℕ) (A B C line columns : List ℤ) (sums output : List ℕ) : Type 0 where
   pub writable : Writable G A B C
+  pub half-is : half ≡ halfRange (clamped G)
   pub long-line : length line ≡ G .inner
   pub long-columns : length B ≤ length columns
   pub long-sums : length sums ≡ G .columns
@@ -151,18 +166,30 @@ module _ {G : Setting} {A B C : List ℤ} (w : Writable G A B C) where
   pub most-entries : length B ≤ mostInner * mostColumns
   most-entries = omega (arith, long-B w, counts (limits w .sizes))
 
-module _ {G : Setting} {A B C line columns : List ℤ} {sums before : List ℕ} (ready : RowsReady G A B C line columns sums before) where
-  pub rows-begun : {quotients remainders : ℕ} → quotients ≡ start (clamped G) ofQuotients → remainders ≡ start (clamped G) ofRemainders
-      → RowsAt G 0 0 line sums quotients remainders
-  rows-begun q-is r-is =
-      let same = unclamped (ready .writable) in
+pub claims-early : {G : Setting} {A B C : List ℤ} → Writable G A B C → length A + length B + length C + G .rows * G .columns < 2 ^ 16
+claims-early w = omega (arith, long-A w, long-B w, long-C w, counts (limits w .sizes))
+
+-- the bias has a row for each of A, or none at all
+bias-ready : {G : Setting} {A B C : List ℤ} → Writable G A B C → {row : ℕ} → row < G .rows → BiasReady C (row * G .columns) (G .columns)
+bias-ready {G} w l =
+    record {
+      inside = λ some.
+          let there : hasBias G ≡ true =
+          ⊎-elim (λ e. e) (λ e. absurd (some (omega (arith, long-C w, ap (λ n. G .rows * n) (without-bias G e .1))))) (true-or-false (hasBias G)) in
+          omega (arith, long-C w, ap (λ n. G .rows * n) (with-bias G there .1), row-inside (G .columns) l);
+    }
+
+module _ {G : Setting} {half : ℕ} {A B C line columns : List ℤ} {sums before : List ℕ} (ready : RowsReady G half A B C line columns sums before) where
+  pub rows-begun : RowsAt G 0 0 line sums (length A + length B + length C) (length A + length B + length C + G .rows * G .columns)
+  rows-begun =
+      let w = ready .writable in
       record {
         within = omega arith;
         from-is = omega arith;
         long-line = ready .long-line;
         long-sums = ready .long-sums;
-        quotients-at = q-is ∙ ap (λ H. start H ofQuotients) same ∙ omega arith;
-        remainders-at = r-is ∙ ap (λ H. start H ofRemainders) same ∙ omega arith;
+        quotients-at = omega (arith, long-A w, long-B w, long-C w, parts-are G);
+        remainders-at = omega (arith, long-A w, long-B w, long-C w, parts-are G);
       }
 
   module _ {row from quotients remainders : ℕ} {here : List ℤ} {made : List ℕ} (at : RowsAt G row from here made quotients remainders)
@@ -179,47 +206,19 @@ module _ {G : Setting} {A B C line columns : List ℤ} {sums before : List ℕ} 
           early = omega (arith, parts-are G, few, at);
         }
 
-    pub row-ready : {half lifting : ℕ} {now output : List ℕ} → half ≡ halfRange (clamped G) → lifting ≡ half * clamped G .scale
-        → length now ≡ length made → length output ≡ length before → RowReady G half lifting now quotients remainders output
-    row-ready half-is lift-is long same =
+    pub row-ready : {lifting : ℕ} {now output : List ℕ} → lifting ≡ half * clamped G .scale → length now ≡ length made
+        → length output ≡ length before → RowReady G half lifting C (row * G .columns) now quotients remainders output
+    row-ready lift-is long same =
         let claims = row-inside (G .columns) l in
         record {
-          lifts = lifting-of (limits (ready .writable)) half-is lift-is;
+          lifts = lifting-of (limits (ready .writable)) (ready .half-is) lift-is;
+          bias = bias-ready (ready .writable) l;
+          early = omega (arith, claims, counts (limits (ready .writable) .sizes));
           long-sums = long ∙ at .long-sums;
           few = limits (ready .writable) .sizes .columns .1;
           room-quotients = omega (arith, parts-are G, length-is G, at, ready .long-output);
           room-remainders = omega (arith, parts-are G, length-is G, at, ready .long-output);
         }
-
--- the sums of a row with the bias added, where there is one
-module _ {G : Setting} {A B C : List ℤ} (w : Writable G A B C) {row : ℕ} (l : row < G .rows) where
-  pub bias-ready : {sums : List ℕ} → length sums ≡ G .columns → BiasReady C (row * G .columns) sums
-  bias-ready long =
-      record {
-        inside = λ some.
-            let there : hasBias G ≡ true =
-            ⊎-elim (λ e. e) (λ e. absurd (some (omega (arith, long-C w, ap (λ n. G .rows * n) (without-bias G e .1))))) (true-or-false (hasBias G)) in
-            omega (arith, long-C w, ap (λ n. G .rows * n) (with-bias G there .1), row-inside (G .columns) l);
-      }
-
-  bias-added : {sums after : List ℕ} → BiasAdded C (row * G .columns) sums after → length sums ≡ G .columns
-      → (j : ℕ) → j < G .columns → getD sums j 0 ≡ leastResidue (2 ^ 32) (matrixProduct (G .inner) (entryOf (G .inner) A) (entryOf (G .columns) B) row j)
-      → getD after j 0 ≡ leastResidue (2 ^ 32) (sumFor G A B C row j)
-  bias-added {sums} {after} added long j m sum =
-      let P = matrixProduct (G .inner) (entryOf (G .inner) A) (entryOf (G .columns) B) row j in
-      let c = entryOf (biasColumns G) C row j in
-      let word : 0 < 2 ^ 32 = omega arith in
-      let due = ap (leastResidue (2 ^ 32)) (sym (biasedSum-is G (entryOf (G .inner) A) (entryOf (G .columns) B) (entryOf (biasColumns G) C) row j)) in
-      ⊎-elim
-      (λ e. let wide = with-bias G e .1 in
-      let some : eqb (length C) 0 ≡ false =
-      ne-eqb (length C) 0 (λ z. omega (arith, long-C w, ap (λ n. G .rows * n) wide, digits-lt l m)) in
-      let entry : getD C (row * G .columns + j) (pos 0) ≡ c = ap (λ n. getD C (row * n + j) (pos 0)) (sym wide) in
-      added .each j (rw some (omega arith)) ∙ rw (sum, entry) (sym (residue-sum (2 ^ 32) word P c)) ∙ due)
-      (λ e. let none : eqb (length C) 0 ≡ true = eq-eqb (length C) 0 (omega (arith, long-C w, ap (λ n. G .rows * n) (without-bias G e .1))) in
-      added .rest j (rw none (omega arith)) ∙ sum
-      ∙ ap (leastResidue (2 ^ 32)) (sym (ap (λ z. P +ℤ z) (no-bias w e (row * biasColumns G + j)) ∙ +ℤ-idr P)) ∙ due)
-      (true-or-false (hasBias G))
 
 pub rows-none : (G : Setting) (A B C : List ℤ) {before : List ℕ} → ClaimsWrote G A B C 0 before before
 rows-none G A B C = wrote-none (λ k. ⊎-elim (λ a. omega (arith, a .from, a .below)) (λ a. omega (arith, a .from, a .below)))
@@ -239,29 +238,30 @@ module _ {G : Setting} {row from quotients remainders : ℕ} {slice line : List 
       }
 
   -- the row of A and the columns of B, as they were narrowed
-  pub rows-more : {A B C kept columns : List ℤ} {before output after made : List ℕ} → Writable G A B C
+  pub rows-more : {A B C kept columns : List ℤ} {before output after : List ℕ} → Writable G A B C
       → Filled (pos 0) slice (length slice) (columnOf (take (from + length slice - from) (drop from A)) 1 0) line
       → Filled (pos 0) kept (G .columns * G .inner) (turnedNumber B (G .inner) (G .columns)) columns → length B ≤ length kept
-      → RowSums line columns old made → BiasAdded C (row * G .columns) made sums → ClaimsWrote G A B C row before output
-      → RowWrote G row sums quotients remainders output after
+      → RowSums line columns old sums → ClaimsWrote G A B C row before output
+      → RowWrote G C row (row * G .columns) sums quotients remainders output after
       → ClaimsWrote G A B C (row + 1) before after
-  rows-more {A} {B} {C} {columns = columns} {made = made} writable row-filled filled room summed biased so-far row-wrote =
+  rows-more {A} {B} {C} {columns = columns} writable row-filled filled room summed so-far row-wrote =
       let m = G .inner in
       let X = entryOf m A in
       let Y = entryOf (G .columns) B in
       let next : row * G .columns + G .columns ≡ (row + 1) * G .columns = omega arith in
-      let sum : (j : ℕ) → j < G .columns → getD made j 0 ≡ leastResidue (2 ^ 32) (matrixProduct m X Y row j) =
+      let sum : (j : ℕ) → j < G .columns → getD sums j 0 ≡ leastResidue (2 ^ 32) (matrixProduct m X Y row j) =
       λ j h. row-sums-exact summed m X Y row j (row-filled .long ∙ at .long-line) (omega (arith, at .long-sums))
       (omega (arith, row-inside m h, long-B writable, filled .long))
       (λ k n. let same : k * 1 + 0 ≡ k = omega arith in
       let inside : k < length slice = omega (arith, at .long-line) in
       row-filled .each k inside ∙ rw (same, part-of A from (length slice) k (pos 0) inside, at .from-is))
       (λ k n. filled .each (j * m + k) (digits-lt h n) ∙ rw (digits-mod j n, digits-div j n)) in
-      let of : RowOf G A B C row sums quotients remainders = record {
+      let of : RowOf G A B C row (row * G .columns) sums quotients remainders = record {
         writable = writable;
         within = l;
-        sums-are = λ j h. bias-added writable l biased (omega (arith, summed .long, at .long-sums)) j h (sum j h);
+        sums-are = sum;
+        from-is = omega arith;
         quotients-at = at .quotients-at;
         remainders-at = at .remainders-at;
       } in
-      rw next at (both-on so-far (rw (at .quotients-at, at .remainders-at) at (row-wrote .wrote A B C of)))
+      rw next at (both-on so-far (rw (at .quotients-at, at .remainders-at) at (row-wrote .wrote A B of)))

@@ -29,13 +29,13 @@ use Rattle.writer.specs.Laws.Writes.{Among, Both, wrote-more, wrote-all}
 
 module _ {G : Setting} {A B C : List ℤ} (w : Writable G A B C) {first : ℕ} where
   pub of-A : first ≡ start (clamped G) ofA → OperandOf G A B C ofA 1 (G .rows) (G .inner) first A
-  of-A e = record { named = part-A G; integers = integer-A G A B C; first-is = e ∙ ap (λ H. start H ofA) (unclamped w) }
+  of-A e = record { named = part-A G; count = long-A w; integers = integer-A G A B C; first-is = e ∙ ap (λ H. start H ofA) (unclamped w) }
 
   pub of-B : first ≡ start (clamped G) ofB → OperandOf G A B C ofB 2 (G .inner) (G .columns) first B
-  of-B e = record { named = part-B G; integers = integer-B G A B C; first-is = e ∙ ap (λ H. start H ofB) (unclamped w) }
+  of-B e = record { named = part-B G; count = long-B w; integers = integer-B G A B C; first-is = e ∙ ap (λ H. start H ofB) (unclamped w) }
 
   pub of-C : first ≡ start (clamped G) ofBias → OperandOf G A B C ofBias 5 (G .rows) (biasColumns G) first C
-  of-C e = record { named = part-bias G; integers = integer-bias G A B C; first-is = e ∙ ap (λ H. start H ofBias) (unclamped w) }
+  of-C e = record { named = part-bias G; count = long-C w; integers = integer-bias G A B C; first-is = e ∙ ap (λ H. start H ofBias) (unclamped w) }
 
   module _ {output : List ℕ} (room : ticketLength G ≤ length output) where
     pub ready-A : first ≡ start (clamped G) ofA → OperandReady first (G .rows) (G .inner) A output
@@ -103,14 +103,14 @@ named-within G k =
     (λ a. omega (arith, a .below))
 
 pub ticket-wrote : {G : Setting} {A B C : List ℤ} (w : Writable G A B C) {a b c : ℕ} {before x y z after : List ℕ} → ticketLength G ≤ length before
-    → ClaimsWrote G A B C (G .rows) before x → a ≡ start (clamped G) ofA → OperandWrote 1 (G .rows) (G .inner) a A x y
-    → b ≡ start (clamped G) ofB → OperandWrote 2 (G .inner) (G .columns) b B y z
-    → c ≡ start (clamped G) ofBias → OperandWrote 5 (G .rows) (biasColumns G) c C z after
+    → ClaimsWrote G A B C (G .rows) before x → a ≡ start (clamped G) ofA → OperandWrote 1 (G .inner) a A x y
+    → b ≡ start (clamped G) ofB → OperandWrote 2 (G .columns) b B y z
+    → c ≡ start (clamped G) ofBias → OperandWrote 5 (biasColumns G) c C z after
     → after ≡ ticketOf G A B C ++ drop (ticketLength G) before
 ticket-wrote {G} {A} {B} {C} w room claims a-is wrote-A b-is wrote-B c-is wrote-C =
-    let part-A = rw (of-A w a-is .first-is) at (wrote-A .wrote G A B C ofA (of-A w a-is)) in
-    let part-B = rw (of-B w b-is .first-is) at (wrote-B .wrote G A B C ofB (of-B w b-is)) in
-    let part-C = rw (of-C w c-is .first-is) at (wrote-C .wrote G A B C ofBias (of-C w c-is)) in
+    let part-A = rw (of-A w a-is .first-is, long-A w) at (wrote-A .wrote G A B C ofA (G .rows) (of-A w a-is)) in
+    let part-B = rw (of-B w b-is .first-is, long-B w) at (wrote-B .wrote G A B C ofB (G .inner) (of-B w b-is)) in
+    let part-C = rw (of-C w c-is .first-is, long-C w) at (wrote-C .wrote G A B C ofBias (G .rows) (of-C w c-is)) in
     rw (length-records G)
     (wrote-all (ticketOf G A B C)
     (wrote-more (wrote-more (wrote-more claims part-A (λ k. inl) (λ k. inr) (λ k s. s)) part-B (λ k. inl) (λ k. inr) (λ k s. s))

@@ -1,8 +1,8 @@
 use mathlib.Core.Path.{_≡_, sym, ap, _∙_}
 use borrow.Author.Needs.{needs}
-use Rattle.ticket.specs.Rules.{refusal, halfRange, settingTests, ticketLength, reading}
+use Rattle.ticket.specs.Rules.{refusal, halfRange, settingNumber, settingTests, ticketLength, reading}
 use Rattle.ticket.specs.Laws.Tests.{AllHold}
-use Rattle.ticket.specs.Laws.Limits.{counts, limits-of, setting-holds, clamped, clamped-same}
+use Rattle.ticket.specs.Laws.Limits.{counts, limits-of, setting-holds, clamped, clamped-same, number-by}
 use Rattle.ticket.specs.Laws.Scans.{after-refused}
 use Rattle.ticket.specs.Laws.Refusals.{by-length, refused-reading, records-read}
 use Rattle.ticket.proofs.records.read.Statement.{statement}
@@ -11,8 +11,11 @@ use Rattle.ticket.proofs.records.read.Tie as tie
 abbrev start : tie.Else1 → tie.Start
 start c = c .before .before .before .before
 
+number : (c : tie.After-number-of) → c .number-of .result ≡ settingNumber (c .before .before .before .args .setting)
+number c = c .number-of .ensures ∙ number-by _ (c .before .half .ensures)
+
 holds : (c : tie.Else1) → AllHold (settingTests (start c .args .setting))
-holds c = setting-holds (start c .args .setting) (sym (c .before .number-of .ensures) ∙ c .if1 .left)
+holds c = setting-holds (start c .args .setting) (sym (number (c .before)) ∙ c .if1 .left)
 
 half : (c : tie.Else1) → c .before .before .half .result .0 ≡ halfRange (clamped (start c .args .setting))
 half c = c .before .before .half .ensures
@@ -23,8 +26,8 @@ long c = let limits = limits-of _ (holds (c .before)) in c .length .ensures ∙ 
 returns : tie.Need-returns
 unfolding reading
 returns c =
-    let number = c .before .number-of .ensures in
-    ap (λ n. refusal n 0) number ∙ sym (after-refused _ _ (λ e. c .if1 .taken (number ∙ e)))
+    let is = number (c .before) in
+    ap (λ n. refusal n 0) is ∙ sym (after-refused _ _ (λ e. c .if1 .taken (is ∙ e)))
 
 returns-2 : tie.Need-returns-2
 returns-2 c = sym (refused-reading _ _ (by-length (holds (c .before .before)) (λ e. c .if2 .taken (e ∙ sym (long (c .before))))))

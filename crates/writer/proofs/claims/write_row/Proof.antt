@@ -11,12 +11,12 @@ use Rattle.writer.proofs.claims.write_row.Statement.{statement}
 use Rattle.writer.proofs.claims.write_row.Tie as tie
 
 abbrev Inv-loop : tie.InvT-loop
-Inv-loop setting half lift row sums quotients remainders output₀ quotient₀ remainder₀ column₀ output quotient remainder column =
+Inv-loop setting half lift row bias start sums quotients remainders output₀ quotient₀ remainder₀ column₀ output quotient remainder column =
     (column ≤ length sums) × (length output ≡ length output₀) × (quotient ≡ word 3 0 row column) × (remainder ≡ word 4 0 row column)
-    × RowTo setting row sums quotients remainders column output₀ output
+    × RowTo setting bias row start sums quotients remainders column output₀ output
 
 abbrev μ-loop : tie.MeasureT-loop
-μ-loop setting half lift row sums quotients remainders output₀ quotient₀ remainder₀ column₀ output quotient remainder column =
+μ-loop setting half lift row bias start sums quotients remainders output₀ quotient₀ remainder₀ column₀ output quotient remainder column =
     length sums - column
 
 abbrev start : tie.At-loop Inv-loop μ-loop → tie.Start Inv-loop μ-loop
@@ -35,7 +35,7 @@ inside c =
 
 -- a turn, from its first record, its second, and its end
 abbrev one : tie.After-write-record-arg Inv-loop μ-loop → tie.In-loop Inv-loop μ-loop
-one c = c .before .before .before
+one c = c .before .before .before .before
 
 abbrev two : tie.After-write-record-arg2 Inv-loop μ-loop → tie.In-loop Inv-loop μ-loop
 two c = one (c .before .before .before .before)
@@ -45,6 +45,12 @@ end c = two (c .before .before .before)
 
 loop-holds : tie.Need-loop-holds Inv-loop μ-loop
 loop-holds c = (omega arith, omega arith, c .before .word .ensures, c .word2 .ensures, row-none)
+
+with-bias-requires : tie.Need-with-bias-requires Inv-loop μ-loop
+with-bias-requires c κs =
+    let turn = c .before in
+    let pre = start (turn .before) .pre in
+    record { inside = λ some. omega (arith, pre .bias .inside some, pre .long-sums, turn .loop-test .taken) }
 
 loop-again : tie.Need-loop-again Inv-loop μ-loop
 loop-again c =
@@ -56,7 +62,7 @@ loop-again c =
       second .long ∙ first .write-record .ensures .long ∙ so-far .1,
       omega (arith, so-far .2),
       omega (arith, so-far .3),
-      row-claim (start at .pre) (start at .fits .row .fits) (end c .loop-test .taken) (so-far .4) (first .before .before .divide .ensures)
+      row-claim (start at .pre) (start at .fits .row .fits) (end c .loop-test .taken) (so-far .4) (rw (first .before .before .before .with-bias .ensures) at (first .before .before .divide .ensures))
           (so-far .2) (so-far .3) (first .write-record .ensures) second,
     )
 
@@ -70,7 +76,7 @@ pub write-row-spec : {M : Type 1} → statement M
 write-row-spec =
     tie.close
     (tie.spec Inv-loop μ-loop (λ c κs. search needs) (λ c κs. search needs)
-    loop-holds (λ c. omega arith) (λ c. omega arith)
+    loop-holds (λ c. omega (arith, inside c, start (c .before) .pre .early)) (λ c. omega arith) (λ c. omega arith) with-bias-requires
     (λ c κs. search) (λ c. omega (arith, inside (one c))) (λ c κs. omega (arith, inside (one c))) (λ c. omega (arith, inside (two c)))
     (λ c κs. omega (arith, inside (two c), two c .before .loop .inv)) (λ c. omega (arith, inside (end c)))
     (λ c. omega (arith, inside (end c))) (λ c. omega (arith, inside (end c)))

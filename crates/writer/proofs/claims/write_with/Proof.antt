@@ -11,10 +11,11 @@ write-rows-requires c κs =
     let pre = c .before .before .before .before .before .before .before .before .pre in
     record {
       writable = pre .0;
-      long-line = length-take-le _ _ (pre .2 .for-line);
-      long-columns = omega (arith, pre .2 .for-columns, long-B (pre .0));
-      long-sums = length-take-le _ _ (pre .2 .for-sums);
-      long-output = pre .1;
+      half-is = pre .1;
+      long-line = length-take-le _ _ (pre .3 .for-line);
+      long-columns = omega (arith, pre .3 .for-columns, long-B (pre .0));
+      long-sums = length-take-le _ _ (pre .3 .for-sums);
+      long-output = pre .2;
     }
 
 pub write-with-spec : {M : Type 1} → statement M

@@ -1,24 +1,24 @@
 -- The loop keeps the records of the rows before this one in the output, and in `first` where it begins.
 use Prim.Native.Nat.{_+_, _-_, _*_, _≤_, _<_}
 use native.Mathlib.Omega.{arith}
-use mathlib.Core.Path.{_≡_, ap, _∙_}
+use mathlib.Core.Path.{_≡_, sym, ap, _∙_}
 use lib.ListN.{length, take, drop}
 use Rattle.algebra.specs.Laws.Fills.{part-long}
 use Rattle.algebra.specs.Laws.Positions.{row-inside}
-use Rattle.writer.specs.Laws.Lines.{OperandTo, rows-none, row-records}
+use Rattle.writer.specs.Laws.Lines.{OperandTo, few-ready, operand-none, row-records}
 use Rattle.writer.specs.Laws.Operands.{small-part}
 use Rattle.writer.proofs.records.write_operand.Statement.{statement}
 use Rattle.writer.proofs.records.write_operand.Tie as tie
 
 abbrev Inv-loop : tie.InvT-loop
 Inv-loop output₀ start kind height width operand first₀ row₀ output first row =
-    (row ≤ height) × (first ≡ row * width) × (length output ≡ length output₀) × OperandTo kind height width start operand first output₀ output
+    (row ≤ height) × (first ≡ row * width) × (length output ≡ length output₀) × OperandTo kind width start operand first output₀ output
 
 abbrev μ-loop : tie.MeasureT-loop
 μ-loop output₀ start kind height width operand first₀ row₀ output first row = height - row
 
 abbrev start : tie.At-loop Inv-loop μ-loop → tie.Start Inv-loop μ-loop
-start c = c .before .before
+start c = c .before .before .before
 
 -- a row is left
 more : (c : tie.In-loop Inv-loop μ-loop) → c .before .loop .row < start (c .before) .args .height
@@ -44,19 +44,20 @@ loop-again c =
     let at = inside .before .loop in
     let left = more inside in
     let line = rw (long inside) at (c .before .before .write-line .ensures) in
-    (omega arith, omega (arith, at .inv .1), line .long ∙ at .inv .2, search (row-records, line))
+    (omega arith, omega (arith, at .inv .1), line .long ∙ at .inv .2, row-records (at .row) (fits inside) (at .inv .1) (at .inv .3) line)
 
-returns : tie.Need-returns Inv-loop μ-loop
-returns c =
+returns-2 : tie.Need-returns-2 Inv-loop μ-loop
+returns-2 c =
     let begun = start (c .before) in
-    let all : c .before .loop .first ≡ begun .args .height * begun .args .width =
-    c .before .loop .inv .1 ∙ ap (λ n. n * begun .args .width) (omega arith) in
+    let all : c .before .loop .first ≡ length (begun .args .operand .now) =
+    c .before .loop .inv .1 ∙ ap (λ n. n * begun .args .width) (omega arith) ∙ sym (begun .pre .count) in
     record { long = c .before .loop .inv .2; wrote = rw all at (c .before .loop .inv .3) }
 
 pub write-operand-spec : {M : Type 1} → statement M
 write-operand-spec =
     tie.close
-    (tie.spec Inv-loop μ-loop (λ c. (omega arith, omega arith, omega arith, rows-none))
+    (tie.spec Inv-loop μ-loop (λ c κs. few-ready (c .before .before .before .pre) (omega arith)) (λ c. c .before .before .write-few .ensures .long)
+    (λ c. c .before .before .write-few .ensures) (λ c. (omega arith, omega arith, omega arith, operand-none))
     (λ c. omega (arith, room c, start (c .before) .pre .count)) (λ c. omega (arith, room (c .before), start (c .before .before) .pre .room))
     (λ c. omega (arith, room (c .before), start (c .before .before) .pre .count)) (λ c. omega arith) (λ c. omega (arith, room (c .before)))
     (λ c. omega (arith, room (c .before), start (c .before .before) .pre .count))
@@ -65,4 +66,4 @@ write-operand-spec =
       wide = omega (arith, long inside, start (inside .before) .pre .wide);
       room = omega (arith, long inside, room inside, start (inside .before) .pre .room, inside .before .loop .inv .2);
     })
-    (λ c. omega arith) (λ c. omega arith) loop-again (λ c. c .before .loop .inv .2) returns)
+    (λ c. omega arith) (λ c. omega arith) loop-again (λ c. c .before .loop .inv .2) returns-2)

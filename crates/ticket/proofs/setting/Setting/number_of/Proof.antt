@@ -2,8 +2,8 @@ use mathlib.Core.Path.{_≡_, sym, _∙_}
 use mathlib.Core.Bool.{true}
 use borrow.Author.Needs.{needs}
 use borrow.Author.Tests.{not-true, not-false}
-use Rattle.ticket.specs.Rules.{sizesWithin, numbersWithin, settingTests, firstFailed}
-use Rattle.ticket.specs.Laws.Limits.{sizes-of, numbers-of}
+use Rattle.ticket.specs.Rules.{sizesWithin, numbersWithin}
+use Rattle.ticket.specs.Laws.Limits.{sizes-of, numbers-of, numberBy}
 use Rattle.ticket.proofs.setting.Setting.number_of.Statement.{statement}
 use Rattle.ticket.proofs.setting.Setting.number_of.Tie as tie
 
@@ -14,11 +14,11 @@ numbers : (c : tie.Else2) → numbersWithin (c .before .before .before .before .
 numbers c = sym (c .before .numbers-within .ensures) ∙ not-false _ (c .if2 .left)
 
 returns : tie.Need-returns
-unfolding settingTests firstFailed
+unfolding numberBy
 returns c = rw (← c .before .sizes-within .ensures, not-true (c .before .sizes-within .result) (c .if1 .taken))
 
 returns-2 : tie.Need-returns-2
-unfolding settingTests firstFailed
+unfolding numberBy
 returns-2 c =
     rw (sizes (c .before .before), ← c .before .numbers-within .ensures, not-true (c .before .numbers-within .result) (c .if2 .taken))
 
@@ -26,10 +26,10 @@ fits-requires : tie.Need-fits-requires
 fits-requires c κs =
     let two = c .before in
     let one = two .before .before in
-    (sizes-of _ (sizes one), numbers-of _ (numbers two), one .before .before .pre)
+    (sizes-of _ (sizes one), numbers-of _ (numbers two))
 
 returns-3 : tie.Need-returns-3
-unfolding settingTests firstFailed
+unfolding numberBy
 returns-3 c =
     let bias = c .before .before .before in
     let two = bias .before in
