@@ -6,7 +6,7 @@ ghost use Rattle.ticket.specs.Rules.{reading, recordBytes, records, part
 ghost use Rattle.residue.specs.Rules.{modulus};
 ghost use Rattle.ticket.specs.Laws.Limits.{Within};
 ghost use Rattle.ticket.specs.Laws.All.{all};
-ghost use Rattle.ticket.specs.Laws.Forms.{entriesForm, partAnswer, testedAt, Holds, Ranged};
+ghost use Rattle.ticket.specs.Laws.Forms.{entriesForm, partAnswer, testedAt, Holds, Ranged, rangeTest};
 ghost use Rattle.ticket.specs.Laws.Passing.{passing, passingAt, rowPassing};
 ghost use Rattle.ticket.specs.Laws.Parts.{MakesTests, PartReady, ReadReady, formBytes};
 use crate::Answer;
@@ -181,18 +181,24 @@ fn row_passes(records: &[u8], form: Form, start: usize, row: u8) -> bool
     ok
 }
 
-// Whether record i passes, which stands in the given row and column. Below p, a value is out of range where it is one of the size
-// numbers from low on. The tests have no branch, so that the compiler makes those of several records at a time.
+// Whether record i passes, which stands in the given row and column. The tests have no branch, so that the compiler makes those of
+// several records at a time.
 fn record_passes(records: &[u8], form: Form, i: usize, row: u8, column: u8) -> bool
     requires { ⌜ (recordBytes * i + recordBytes ≤ length (now records)) × Ranged form ⌝ }
     ensures { λ r. ⌜ r ≡ passingAt (now (records .entry)) form i row column ⌝ }
 {
+    let value = value_at(records, i);
+    formed(records, i, form.kind, row, column) & value.is_least() & in_range(value, form)
+}
+
+// Whether a value below p is in range: it is out of range where it is one of the size numbers from low on.
+fn in_range(value: Residue, form: Form) -> bool
+    requires { ⌜ Ranged form ⌝ }
+    ensures { λ r. ⌜ (value .0 < modulus → r ≡ rangeTest form (value .0)) ⌝ }
+{
     let low = form.limit - form.shift;
     let size = Residue::modulus() - form.limit;
-    let value = value_at(records, i);
-    formed(records, i, form.kind, row, column)
-        & value.is_least()
-        & (size <= std::num::wrapping_sub_u32(value.0, low))
+    size <= std::num::wrapping_sub_u32(value.0, low)
 }
 
 // The answer of a part, the first record of which is record start of the ticket.
@@ -227,16 +233,14 @@ fn first_refusal(records: &[u8], form: Form, start: u32) -> Answer
 
 // The first of the tests that record i fails, which stands in the given row and column; 0 where it passes.
 fn record_number(records: &[u8], form: Form, i: u32, row: u8, column: u8) -> u32
-    requires { ⌜ recordBytes * i + recordBytes ≤ length (now records) ⌝ }
+    requires { ⌜ (recordBytes * i + recordBytes ≤ length (now records)) × Ranged form ⌝ }
     ensures { λ r. ⌜ r ≡ testedAt (now (records .entry)) form i row column ⌝ }
 {
     if !formed(records, i as usize, form.kind, row, column) {
         return 5;
     }
     let value = value_at(records, i as usize);
-    let least = value.is_least();
-    let shifted = value.add(Residue(form.shift)).0;
-    unless(least, 6, unless(shifted < form.limit, form.outside, 0))
+    unless(value.is_least(), 6, unless(in_range(value, form), form.outside, 0))
 }
 
 // Whether record i has the kind, a zero byte, the row and the column.

@@ -2,6 +2,7 @@
 --
 --   entriesForm κ m n T c   the form of m by n entries from -T to T, of kind κ, where c is the number of one out of range
 --   quotientsForm G, remaindersForm G   the forms of the quotients and of the remainders
+--   rangeTest F x        the value x is in the range of F
 --   testedAt b F i r c   the number of record i of b by the form F, which stands in row r, column c
 --   tested b F i         the same, the row and the column from i
 --   partAnswer F a b     the answer of the part that b begins with, of which the first record has the number a
@@ -16,19 +17,16 @@
 --   FormedBytes b i κ r c, formed-exactly   the form of a record, byte by byte
 --   value-is             the value of a record, by its bytes
 use Prim.Native.Nat.{ℕ, _+_, _-_, _*_, _/_, _%_, _^_, _≤_, _<_}
-use native.Mathlib.Decide.{ℕ-discrete}
+use native.Mathlib.Decide.{ℕ-discrete, decLe}
 use native.Mathlib.Omega.{arith}
 use mathlib.Core.Path.{_≡_, refl, sym, _∙_}
 use mathlib.Core.Logic.{_↔_}
 use mathlib.Core.Bool.{Bool, true, false}
 use mathlib.Core.List.{List, [], _∷_}
-use borrow.Author.Tests.{eq-eqb, eqb-true}
+use borrow.Author.Tests.{eq-eqb, eqb-true, le-ltb}
 use lib.Dec.{ltb, eqb, lit<}
-use lib.IntN.{pos, _+ℤ_}
 use lib.ListN.{length, getD, take, drop}
-use Rattle.residue.specs.Rules.{modulus, leastResidue}
-use Rattle.residue.specs.Laws.Modulus.{modulus-positive}
-use Rattle.residue.specs.Laws.Residues.{residue-of-natural}
+use Rattle.residue.specs.Rules.{modulus}
 use Rattle.algebra.specs.Rules.{word}
 use Rattle.algebra.specs.Laws.Bytes.{word-eqb}
 use Rattle.algebra.specs.Laws.Fills.{part-of, part-long}
@@ -52,11 +50,14 @@ abbrev pub remaindersForm : Setting → Form
 remaindersForm G = record { kind = 4; rows = G .rows; columns = G .columns; shift = 0; limit = G .scale; outside = 9 }
 
 -- the tests of record i, in order
+abbrev pub rangeTest : Form → ℕ → Bool
+rangeTest F value = ltb ((value + F .shift) % modulus) (F .limit)
+
 abbrev testsAt : List ℕ → Form → ℕ → ℕ → ℕ → List Test
 testsAt bytes F i row column =
     test (formed bytes i (F .kind) row column) 5
     ∷ test (ltb (valueAt bytes i) modulus) 6
-    ∷ test (ltb ((valueAt bytes i + F .shift) % modulus) (F .limit)) (F .outside)
+    ∷ test (rangeTest F (valueAt bytes i)) (F .outside)
     ∷ []
 
 unfoldable pub testedAt : List ℕ → Form → ℕ → ℕ → ℕ → ℕ
@@ -109,13 +110,16 @@ module _ (bytes : List ℕ) (F : Form) (i row column : ℕ) where
   unfolding testedAt firstFailed
   tested-unformed form = rw form
 
-  pub tested-formed : {least : Bool} {value shifted : ℕ}
+  pub tested-formed : {least ranged : Bool} {value : ℕ}
       → formed bytes i (F .kind) row column ≡ true → value ≡ valueAt bytes i → least ≡ ltb value modulus
-      → shifted ≡ leastResidue modulus (pos value +ℤ pos (F .shift))
-      → unless least 6 (unless (ltb shifted (F .limit)) (F .outside) 0) ≡ testedAt bytes F i row column
+      → (value < modulus → ranged ≡ rangeTest F value)
+      → unless least 6 (unless ranged (F .outside) 0) ≡ testedAt bytes F i row column
   unfolding testedAt firstFailed
-  tested-formed form value least shifted =
-      rw (form, least, shifted, value, residue-of-natural modulus modulus-positive (valueAt bytes i + F .shift))
+  tested-formed {value = value} form value-is least ranged =
+      elim (decLe modulus value) [
+        | yes h ↦ rw (form, ← value-is, least, le-ltb value modulus h)
+        | no h ↦ rw (form, ← value-is, least, ranged (omega arith))
+      ]
 
 module _ (bytes : List ℕ) (F : Form) {i row column number : ℕ} (at : Position (F .columns) i row column)
     (number-is : number ≡ testedAt bytes F i row column) (before : (k : ℕ) → k < i → tested bytes F k ≡ 0) where

@@ -24,13 +24,13 @@ use Rattle.residue.specs.Laws.Modulus.{modulus-below}
 use Rattle.ticket.specs.Rules.{formed, valueAt, refusal}
 use Rattle.ticket.specs.Laws.All.{all, all-at, all-cong, all-split}
 use Rattle.ticket.specs.Laws.Limits.{both}
-use Rattle.ticket.specs.Laws.Forms.{testedAt, tested, partAnswer, Ranged}
+use Rattle.ticket.specs.Laws.Forms.{rangeTest, testedAt, tested, partAnswer, Ranged}
 use Rattle.ticket.specs.Laws.Scans.{refusal-none}
 use Rattle.ticket.specs.Laws.Tests.{none, one, holding-number, same-test}
 use Rattle.ticket.specs.declared.records.Form.{Form}
 
 unfoldable pub passingAt : List ℕ → Form → ℕ → ℕ → ℕ → Bool
-passingAt b F k row column = formed b k (F .kind) row column && ltb (valueAt b k) modulus && ltb ((valueAt b k + F .shift) % modulus) (F .limit)
+passingAt b F k row column = formed b k (F .kind) row column && ltb (valueAt b k) modulus && rangeTest F (valueAt b k)
 
 abbrev pub passing : List ℕ → Form → ℕ → Bool
 passing b F k = passingAt b F k (k / F .columns) (k % F .columns)
@@ -40,7 +40,7 @@ rowPassing b F start row column = passingAt b F (start + column) row column
 
 pub range-by : (F : Form) → Ranged F → (v difference : ℕ) → v < modulus → difference < 2 ^ 32
     → (difference + (F .limit - F .shift)) % 2 ^ 32 ≡ v
-    → leb (modulus - F .limit) difference ≡ ltb ((v + F .shift) % modulus) (F .limit)
+    → leb (modulus - F .limit) difference ≡ rangeTest F v
 range-by F range v difference l ds e =
     let order = range .shift in
     let small = range .limit in
@@ -52,17 +52,15 @@ range-by F range v difference l ds e =
           rw (mod-eq-of-lt below) (same-test _ difference _ (F .limit) (λ g. omega arith) (λ g. omega arith))
     ]
 
-module _ (b : List ℕ) (F : Form) (k row column : ℕ) (range : Ranged F) where
-  pub record-passing : {form least : Bool} {p v difference : ℕ}
-      → form ≡ formed b k (F .kind) row column → v ≡ valueAt b k → least ≡ ltb v modulus → p ≡ modulus
-      → difference < 2 ^ 32 → (difference + (F .limit - F .shift)) % 2 ^ 32 ≡ v
-      → (form && least && leb (p - F .limit) difference) ≡ passingAt b F k row column
-  unfolding passingAt
-  record-passing {form} {least} {p} {v} {difference} ef ev el ep ds e =
-      elim (decLe modulus v) [
-        | yes h ↦ rw (← ev, el, le-ltb v modulus h, and-false form, and-false (formed b k (F .kind) row column))
-        | no h ↦ rw (ef, ← ev, el, ep) (ap (λ t. formed b k (F .kind) row column && ltb v modulus && t) (range-by F range v difference (omega arith) ds e))
-      ]
+pub record-passing : (b : List ℕ) (F : Form) (k row column : ℕ) {form least ranged : Bool} {v : ℕ}
+    → form ≡ formed b k (F .kind) row column → v ≡ valueAt b k → least ≡ ltb v modulus → (v < modulus → ranged ≡ rangeTest F v)
+    → (form && least && ranged) ≡ passingAt b F k row column
+unfolding passingAt
+record-passing b F k row column {form} {v = v} ef ev el er =
+    elim (decLe modulus v) [
+      | yes h ↦ rw (← ev, el, le-ltb v modulus h, and-false form, and-false (formed b k (F .kind) row column))
+      | no h ↦ rw (ef, ← ev, el, er (omega arith))
+    ]
 
 pub rows-passing : (b : List ℕ) (F : Form) (row : ℕ) {start : ℕ} {before here : Bool} → start ≡ row * F .columns
     → before ≡ all start (passing b F)

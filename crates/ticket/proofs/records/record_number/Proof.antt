@@ -10,13 +10,13 @@ returns c = tested-unformed _ _ _ _ _ (sym (c .before .formed .ensures) ∙ not-
 
 returns-2 : tie.Need-returns-2
 returns-2 c =
-    let added = c .before .before .before in
-    let value = added .before .before in
+    let ranged = c .before .before in
+    let value = ranged .before .before in
     let form = value .before in
     c .unless2 .ensures
     ∙ rw (c .before .unless .ensures)
     (tested-formed _ _ _ _ _ (sym (form .before .formed .ensures) ∙ not-false _ (form .if1 .left)) (value .value-at .ensures)
-    (added .before .is-least .ensures) (added .add .ensures))
+    (ranged .before .is-least .ensures) (ranged .in-range .ensures))
 
 pub record-number-spec : {M : Type 1} → statement M
 record-number-spec =

@@ -1,4 +1,3 @@
-use native.Mathlib.Omega.{arith}
 use borrow.Author.Needs.{needs}
 use Rattle.ticket.specs.Laws.Passing.{record-passing}
 use Rattle.ticket.proofs.records.record_passes.Statement.{statement}
@@ -7,13 +6,8 @@ use Rattle.ticket.proofs.records.record_passes.Tie as tie
 returns : tie.Need-returns
 returns c =
     let form = c .before .before in
-    let modulus = form .before .before .before in
-    let start = modulus .before .before .before in
-    record-passing _ _ _ _ _ (start .pre .1) (form .formed .ensures) (form .before .value-at .ensures) (c .before .is-least .ensures)
-    (modulus .modulus .ensures) (omega arith) (c .wrapping-sub-u32 .ensures)
+    record-passing _ _ _ _ _ (form .formed .ensures) (form .before .value-at .ensures) (c .before .is-least .ensures) (c .in-range .ensures)
 
 pub record-passes-spec : {M : Type 1} → statement M
 record-passes-spec =
-    tie.close
-    (tie.spec (λ c. search needs) (λ c κs. search needs) (λ c. search needs) (λ c κs. search needs) (λ c κs. search needs)
-    (λ c κs. search needs) (λ c κs. search needs) returns)
+    tie.close (tie.spec (λ c κs. search needs) (λ c κs. search needs) (λ c κs. search needs) (λ c κs. search needs) returns)
