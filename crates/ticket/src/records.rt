@@ -240,7 +240,9 @@ fn record_number(records: &[u8], form: Form, i: u32, row: u8, column: u8) -> u32
         return 5;
     }
     let value = value_at(records, i as usize);
-    unless(value.is_least(), 6, unless(in_range(value, form), form.outside, 0))
+    let least = value.is_least();
+    let ranged = in_range(value, form);
+    unless(least, 6, unless(ranged, form.outside, 0))
 }
 
 // Whether record i has the kind, a zero byte, the row and the column.

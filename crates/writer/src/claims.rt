@@ -7,9 +7,9 @@ ghost use Rattle.ticket.specs.Laws.Limits.{clamped};
 ghost use Rattle.writer.specs.Laws.Answers.{Writable};
 ghost use Rattle.writer.specs.Laws.Claims.{Lifting, Claimed};
 ghost use Rattle.writer.specs.Laws.Rows.{ClaimsWrote, RowReady, Room, RowsReady, RowWrote};
-use crate::operands::with_bias;
 use crate::operands::narrow;
 use crate::operands::narrow_columns;
+use crate::operands::with_bias;
 use crate::records::COLUMN;
 use crate::records::write_record;
 use residue::Residue;
@@ -34,7 +34,14 @@ struct Claim {
 }
 
 // The records of all claims.
-pub(crate) fn write_claims(setting: Setting, half: Residue, a: &[i32], b: &[i32], bias: &[i32], output: &mut [u8])
+pub(crate) fn write_claims(
+    setting: Setting,
+    half: Residue,
+    a: &[i32],
+    b: &[i32],
+    bias: &[i32],
+    output: &mut [u8],
+)
     requires { ⌜ Writable setting (now a) (now b) (now bias) × (half .0 ≡ halfRange (clamped setting))
         × (ticketLength setting ≤ length (now output)) ⌝ }
     ensures { λ r. ⌜ ClaimsWrote setting (now (a .entry)) (now (b .entry)) (now (bias .entry)) (setting .rows) (now (output .entry)) (now (output .exit)) ⌝ }

@@ -57,7 +57,14 @@ pub fn write(setting: Setting, a: &[i32], b: &[i32], bias: &[i32], output: &mut 
 
 // The ticket, at the beginning of the output. The claims are written first: the records of the operands are then made while the
 // processor still divides.
-fn write_ticket(setting: Setting, half: Residue, a: &[i32], b: &[i32], bias: &[i32], output: &mut [u8])
+fn write_ticket(
+    setting: Setting,
+    half: Residue,
+    a: &[i32],
+    b: &[i32],
+    bias: &[i32],
+    output: &mut [u8],
+)
     requires { ⌜ Writable setting (now a) (now b) (now bias) × (half .0 ≡ halfRange (clamped setting))
         × (ticketLength setting ≤ length (now output)) ⌝ }
     ensures { λ r. ⌜ now (output .exit) ≡ ticketOf setting (now (a .entry)) (now (b .entry)) (now (bias .entry))

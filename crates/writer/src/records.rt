@@ -50,19 +50,17 @@ fn write_few(output: &mut [u8], start: usize, kind: u8, width: usize, operand: &
     ensures { λ r. ⌜ OperandWrote kind width start (now (operand .entry)) (now (output .entry)) (now (output .exit)) ⌝ }
 {
     let mut row = 0;
-    let mut header = ticket::word(kind, 0, row, 0);
     let mut column = 0;
     let mut k = 0;
     while k < operand.len() {
+        let header = ticket::word(kind, 0, row, column);
         let value = residue(Entry(operand[k]));
         write_record(output, start + k, header, value);
         k += 1;
         column += 1;
-        header += COLUMN;
-        if column == width {
+        if (column as usize) == width {
             column = 0;
             row += 1;
-            header = ticket::word(kind, 0, row, 0);
         }
     }
 }

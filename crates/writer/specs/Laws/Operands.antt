@@ -14,7 +14,7 @@
 --   columnOf x n j k  entry k of column j of a matrix x of n columns
 --   NarrowReady x n j l   x has such entries, and l has room for that column
 --   TurnReady x m n l     x has m rows and n columns of such entries, and l has room for them all
---   BiasReady C a n   the bias C has n entries from entry a on, or none at all
+--   BiasReady C a n   the bias C has n entries from entry a on, which comes early, or none at all
 --   biasedWord C k s, no-bias-word   the sum s with entry k of the bias added modulo 2^32, which is s where there is none
 --   low-negative, low-positive   a number modulo 2^32, from its absolute value
 --   size-small        the absolute value of a 32-bit number
@@ -157,6 +157,7 @@ pub record TurnReady (matrix : List ℤ) (height width : ℕ) (list : List ℤ) 
 -- the bias
 
 pub record BiasReady (C : List ℤ) (start n : ℕ) : Type 0 where
+  pub early : start + n < 2 ^ 16
   pub inside : (length C ≡ 0 → ⊥) → start + n ≤ length C
 
 abbrev pub biasedWord : List ℤ → ℕ → ℕ → ℕ

@@ -53,7 +53,6 @@ use Rattle.writer.specs.Laws.Writes.{Wrote, Among, Both, wrote-none, wro
 pub record RowReady (G : Setting) (half lifting : ℕ) (C : List ℤ) (from : ℕ) (sums : List ℕ) (quotients remainders : ℕ) (output : List ℕ) : Type 0 where
   pub lifts : Lifting G half lifting
   pub bias : BiasReady C from (G .columns)
-  pub early : from < 2 ^ 16
   pub long-sums : length sums ≡ G .columns
   pub few : G .columns ≤ mostColumns
   pub room-quotients : recordBytes * (quotients + G .columns) ≤ length output
@@ -173,6 +172,7 @@ claims-early w = omega (arith, long-A w, long-B w, long-C w, counts (limits w .s
 bias-ready : {G : Setting} {A B C : List ℤ} → Writable G A B C → {row : ℕ} → row < G .rows → BiasReady C (row * G .columns) (G .columns)
 bias-ready {G} w l =
     record {
+      early = omega (arith, row-inside (G .columns) l, counts (limits w .sizes));
       inside = λ some.
           let there : hasBias G ≡ true =
           ⊎-elim (λ e. e) (λ e. absurd (some (omega (arith, long-C w, ap (λ n. G .rows * n) (without-bias G e .1))))) (true-or-false (hasBias G)) in
@@ -213,7 +213,6 @@ module _ {G : Setting} {half : ℕ} {A B C line columns : List ℤ} {sums before
         record {
           lifts = lifting-of (limits (ready .writable)) (ready .half-is) lift-is;
           bias = bias-ready (ready .writable) l;
-          early = omega (arith, claims, counts (limits (ready .writable) .sizes));
           long-sums = long ∙ at .long-sums;
           few = limits (ready .writable) .sizes .columns .1;
           room-quotients = omega (arith, parts-are G, length-is G, at, ready .long-output);

@@ -50,7 +50,10 @@ with-bias-requires : tie.Need-with-bias-requires Inv-loop μ-loop
 with-bias-requires c κs =
     let turn = c .before in
     let pre = start (turn .before) .pre in
-    record { inside = λ some. omega (arith, pre .bias .inside some, pre .long-sums, turn .loop-test .taken) }
+    record {
+      early = omega (arith, pre .bias .early, pre .long-sums, turn .loop-test .taken);
+      inside = λ some. omega (arith, pre .bias .inside some, pre .long-sums, turn .loop-test .taken);
+    }
 
 loop-again : tie.Need-loop-again Inv-loop μ-loop
 loop-again c =
@@ -76,7 +79,7 @@ pub write-row-spec : {M : Type 1} → statement M
 write-row-spec =
     tie.close
     (tie.spec Inv-loop μ-loop (λ c κs. search needs) (λ c κs. search needs)
-    loop-holds (λ c. omega (arith, inside c, start (c .before) .pre .early)) (λ c. omega arith) (λ c. omega arith) with-bias-requires
+    loop-holds (λ c. omega (arith, inside c, start (c .before) .pre .bias .early)) (λ c. omega arith) (λ c. omega arith) with-bias-requires
     (λ c κs. search) (λ c. omega (arith, inside (one c))) (λ c κs. omega (arith, inside (one c))) (λ c. omega (arith, inside (two c)))
     (λ c κs. omega (arith, inside (two c), two c .before .loop .inv)) (λ c. omega (arith, inside (end c)))
     (λ c. omega (arith, inside (end c))) (λ c. omega (arith, inside (end c)))
