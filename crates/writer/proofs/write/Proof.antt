@@ -68,6 +68,9 @@ returns-4 c =
     rw (long (else .before), answered c)
     (all-written _ _ _ _ _ (writable (else .before .before)) (room else) (c .before .before .before .write-ticket .ensures))
 
+write-ticket-requires : tie.Need-write-ticket-requires
+write-ticket-requires c κs = (writable (c .before .before .before), numbered (c .before .before) .before .half .ensures, room (c .before))
+
 cast-place : tie.Need-cast-place
 cast-place c =
     let test = c .before .before .before .before .before in
@@ -81,5 +84,5 @@ write-spec =
     (λ c κs. limits-of _ (setting c))
     (λ c. let read = c .before .before in
     refused _ _ _ _ _ (operands-refused _ _ _ _ _ (setting (read .before)) (sym (read .read .ensures)) (c .if2 .taken)) (c .if2 .taken))
-    (λ c κs. search needs) returns-3 (λ c κs. (writable (c .before .before .before), numbered (c .before .before) .before .half .ensures, room (c .before))) cast-place (λ c κs. search needs)
+    (λ c κs. search needs) returns-3 write-ticket-requires cast-place (λ c κs. search needs)
     (λ c. search needs) returns-4)
