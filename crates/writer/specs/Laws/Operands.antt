@@ -25,10 +25,10 @@ use Prim.Native.Nat.{ℕ, suc, _+_, _-_, _*_, _%_, _≤_, _<_, _^_}
 use native.Mathlib.Decide.{ℕ-discrete, decLe}
 use native.Mathlib.Omega.{arith}
 use mathlib.Core.Path.{_≡_, refl, sym, ap, subst, subst⁻¹, _∙_}
-use mathlib.Core.Bool.{Bool, true, false, cond, true≢false}
+use mathlib.Core.Bool.{Bool, true, false, true≢false}
 use mathlib.Core.List.{List, _++_}
 use borrow.Author.Tests.{le-leb, lt-leb, leb-true, ltb-true}
-use lib.Dec.{leb, eqb}
+use lib.Dec.{leb}
 use lib.Pow.{pow-mono}
 use lib.IntN.{ℤ, pos, negsuc, natAbs, _+ℤ_, _-ℤ_}
 use lib.ListN.{length, getD, take, drop, length-append, List·getD-append, List·getD-eq-default}
@@ -42,7 +42,7 @@ use Rattle.residue.specs.Laws.Integers.{equal-of-parts, parts-sum, parts-differ
 use Rattle.residue.specs.Laws.Modulus.{modulus-above, modulus-below, modulus-positive}
 use Rattle.residue.specs.Laws.Residues.{residue-below, residue-of-residue, residue-shift}
 use Rattle.residue.specs.Laws.Signed.{widened, narrowed-is, narrowed-fits}
-use Rattle.algebra.specs.Laws.Fills.{Filled, part-of, part-long}
+use Rattle.algebra.specs.Laws.Fills.{part-of, part-long}
 use Rattle.ticket.specs.Rules.{unless, refusal, after, firstRefusal}
 use Rattle.ticket.specs.Laws.All.{all, all-at}
 use Rattle.ticket.specs.Laws.Scans.{refusal-none, refusal-is, refusal-cong, refusal-split}

@@ -21,13 +21,11 @@ use Prim.Native.Nat.{ℕ, _+_, _-_, _*_, _^_, _≤_, _<_}
 use native.Mathlib.Nat.{mul-le-mul-left, mul-le-mul-right}
 use native.Mathlib.Omega.{arith}
 use mathlib.Core.Path.{_≡_, sym, ap, _∙_}
-use mathlib.Core.Bool.{true, false}
+use mathlib.Core.Bool.{true}
 use mathlib.Core.Logic.{⊎-elim}
-use borrow.Author.Tests.{eq-eqb, ne-eqb}
-use lib.Dec.{eqb}
 use mathlib.Core.List.{List}
 use lib.Arith.{digits-lt, digits-div, digits-mod}
-use lib.IntN.{ℤ, pos, _+ℤ_, +ℤ-idr}
+use lib.IntN.{ℤ, pos}
 use lib.ListN.{length, getD, take, drop}
 use Rattle.residue.specs.Rules.{modulus, leastResidue}
 use Rattle.algebra.specs.Rules.{word, matrixProduct}
@@ -37,14 +35,14 @@ use Rattle.exact.specs.Laws.Matrices.{turnedNumber, RowSums, row-sums-exact}
 use Rattle.ticket.specs.declared.setting.Setting.{Setting}
 use Rattle.ticket.specs.Rules.{mostRows, mostInner, mostColumns, recordBytes, ticketLength, halfRange, start, ofQuotients, ofRemainders, biasColumns, hasBias}
 use Rattle.ticket.specs.Laws.Differences.{biasedSum-is}
-use Rattle.ticket.specs.Laws.Layout.{parts-are, length-is, PartIs, part-quotients, part-remainders}
+use Rattle.ticket.specs.Laws.Layout.{parts-are, length-is, part-quotients, part-remainders}
 use Rattle.ticket.specs.Laws.Limits.{with-bias, without-bias, counts, clamped}
 use Rattle.ticket.specs.Laws.First.{true-or-false}
 use Rattle.residue.specs.Laws.Residues.{residue-sum}
-use Rattle.writer.specs.Rules.{entryOf, sumFor, quotientOf, remainderOf, integerIn, ticketRecord}
+use Rattle.writer.specs.Rules.{entryOf, sumFor, quotientOf, remainderOf, ticketRecord}
 use Rattle.writer.specs.Laws.Answers.{Writable}
 use Rattle.writer.specs.Laws.Claims.{Lifting, Claimed, lifting-of, quotient-true, remainder-true}
-use Rattle.writer.specs.Laws.Entries.{limits, unclamped, long-A, long-B, long-C, no-bias, size-sumFor}
+use Rattle.writer.specs.Laws.Entries.{limits, long-A, long-B, long-C, no-bias, size-sumFor}
 use Rattle.writer.specs.Laws.Lines.{words-named}
 use Rattle.writer.specs.Laws.Operands.{columnOf, BiasReady, biasedWord}
 use Rattle.writer.specs.Laws.Records.{wordsOf, integer-quotient, integer-remainder}
