@@ -15,7 +15,7 @@ use ticket::RECORD;
 // By how much the first word of a record grows from one column to the next.
 pub(crate) const COLUMN: u32 = 16_777_216;
 
-// Operands of at most so many entries are written one by one: their rows are not worth the several at a time.
+// Operands of at most so many entries are written record by record: to make several at a time does not pay.
 const FEW: usize = 8;
 
 // The records of an operand, from record start of the output on.
@@ -44,7 +44,7 @@ pub(crate) fn write_operand(
     }
 }
 
-// The same, record after record, of an operand of few entries.
+// The same, record by record, of an operand of few entries.
 fn write_few(output: &mut [u8], start: usize, kind: u8, width: usize, operand: &[i32])
     requires { ⌜ FewReady start width (now operand) (now output) ⌝ }
     ensures { λ r. ⌜ OperandWrote kind width start (now (operand .entry)) (now (output .entry)) (now (output .exit)) ⌝ }

@@ -80,8 +80,8 @@ cast-place c =
 pub write-spec : {M : Type 1} → statement M
 write-spec =
     tie.close
-    (tie.spec (λ c κs. search needs) (λ c κs. search needs) (λ c. refused _ _ _ _ _ (setting-refused _ _ _ _ _ (number (c .before)) (c .if1 .taken)) (c .if1 .taken))
-    (λ c κs. limits-of _ (setting c))
+    (tie.spec (λ c κs. search needs) (λ c κs. search needs)
+    (λ c. refused _ _ _ _ _ (setting-refused _ _ _ _ _ (number (c .before)) (c .if1 .taken)) (c .if1 .taken)) (λ c κs. limits-of _ (setting c))
     (λ c. let read = c .before .before in
     refused _ _ _ _ _ (operands-refused _ _ _ _ _ (setting (read .before)) (sym (read .read .ensures)) (c .if2 .taken)) (c .if2 .taken))
     (λ c κs. search needs) returns-3 write-ticket-requires cast-place (λ c κs. search needs)

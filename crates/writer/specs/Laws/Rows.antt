@@ -10,7 +10,8 @@
 --   Room G a b c               lists of a, b and c numbers have room for a row of A, for the columns of B and for the sums of a row
 --   tiny-room, most-room       so have lists as long as B, and the longest
 --   most-entries               how many entries B has at most
---   RowsReady G h A B C x Y s o   A and B are to be written, h is half of the quotients' range; there is room for a row of A, for the columns of B, for sums and for the ticket
+--   RowsReady G h A B C x Y s o   A and B are to be written, h is half of the quotients' range, and there is room for a row of A, for the
+--                              columns of B, for sums and for the ticket
 --   RowsAt G i a x s q r       before row i: its entries begin at a, its claims at the records q and r, and x and s have room for the row
 --   RowRoom G A i a x q r      row i is inside A, and the records of its claims come early
 --   ClaimsWrote G A B C n o o'   the claims of the first n rows are written

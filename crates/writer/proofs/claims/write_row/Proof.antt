@@ -60,12 +60,13 @@ loop-again c =
     let first = c .before .before .before .before .before .before in
     let second = c .before .before .write-record2 .ensures in
     let at = end c .before in
-    let so-far = at .loop .inv in (
+    let so-far = at .loop .inv in
+    let claimed = rw (first .before .before .before .with-bias .ensures) at (first .before .before .divide .ensures) in (
       search needs,
       second .long ∙ first .write-record .ensures .long ∙ so-far .1,
       omega (arith, so-far .2),
       omega (arith, so-far .3),
-      row-claim (start at .pre) (start at .fits .row .fits) (end c .loop-test .taken) (so-far .4) (rw (first .before .before .before .with-bias .ensures) at (first .before .before .divide .ensures))
+      row-claim (start at .pre) (start at .fits .row .fits) (end c .loop-test .taken) (so-far .4) claimed
           (so-far .2) (so-far .3) (first .write-record .ensures) second,
     )
 

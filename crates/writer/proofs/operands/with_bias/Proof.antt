@@ -17,8 +17,10 @@ returns-2 c =
     let word = c .before in
     c .wrapping-add-u32 .ensures ∙ rw (word .low-word .ensures, toZ-ofZ {w = w32} (record { sfits = word .before .low-word-arg .given }))
 
+returns : tie.Need-returns
+returns c = let of = c .before .args in no-bias-word (of .bias .now) (of .k) (of .sum) (c .if1 .taken) (omega arith)
+
 pub with-bias-spec : {M : Type 1} → statement M
 with-bias-spec =
     tie.close
-    (tie.spec (λ c. let of = c .before .args in no-bias-word (of .bias .now) (of .k) (of .sum) (c .if1 .taken) (omega arith)) (λ c. omega (arith, inside c)) (λ c. inside c)
-    (λ c κs. search needs) (λ c κs. search needs) returns-2)
+    (tie.spec returns (λ c. omega (arith, inside c)) inside (λ c κs. search needs) (λ c κs. search needs) returns-2)
