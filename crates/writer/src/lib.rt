@@ -9,7 +9,6 @@ ghost use Rattle.writer.specs.Rules.{outputAfter, ticketOf, writing};
 ghost use Rattle.writer.specs.Laws.Answers.{Writable};
 use residue::Residue;
 use ticket::Answer;
-use ticket::PartNumber;
 use ticket::Setting;
 
 mod claims;
@@ -74,10 +73,9 @@ fn write_ticket(
     let height = setting.rows as u8;
     let inner = setting.inner as u8;
     let width = setting.columns as usize;
-    let of_a = setting.start(PartNumber::A) as usize;
-    let of_b = setting.start(PartNumber::B) as usize;
-    let of_bias = setting.start(PartNumber::BIAS) as usize;
-    records::write_operand(output, of_a, 1, height, inner as usize, a);
+    let of_b = a.len();
+    let of_bias = of_b + b.len();
+    records::write_operand(output, 0, 1, height, inner as usize, a);
     records::write_operand(output, of_b, 2, inner, width, b);
     let width = setting.bias_columns() as usize;
     records::write_operand(output, of_bias, 5, height, width, bias);

@@ -31,7 +31,7 @@ module _ {G : Setting} {A B C : List ℤ} (w : Writable G A B C) where
   pub limits : Within G
   limits = limits-of G (w .setting)
 
-  pub unclamped : clamped G ≡ G
+  unclamped : clamped G ≡ G
   unclamped = clamped-same (limits .sizes) (limits .numbers)
 
   pub lift-fits : {half n : ℕ} → half ≡ halfRange (clamped G) → n ≡ half * clamped G .scale → n < 2 ^ 32

@@ -1,11 +1,11 @@
 -- The whole ticket, as the code writes it: the operands and the claims.
 --
---   of-A, of-B, of-C     the operands and the bias are what the first three parts stand for
+--   of-A, of-B, of-C     the operands and the bias are what the first three parts stand for, one after the other
 --   ready-A, ready-B, ready-C   what writing them asks for
 --   ticket-wrote         the operands and the claims are the ticket
 --   Wrote-as-ruled G A B C o a o'   the answer a and the output o' are those of the rules, for the output o
 --   refused, all-written   so they are where the writer refuses, and where it writes the ticket
-use Prim.Native.Nat.{ℕ, _*_, _≤_, _<_}
+use Prim.Native.Nat.{ℕ, _+_, _*_, _≤_, _<_}
 use native.Mathlib.Decide.{decLt}
 use native.Mathlib.Omega.{arith}
 use mathlib.Core.Path.{_≡_, sym, ap, _∙_}
@@ -17,55 +17,56 @@ use Rattle.ticket.specs.declared.setting.Setting.{Setting}
 use Rattle.ticket.specs.declared.Answer.{Answer}
 use Rattle.ticket.specs.Rules.{start, ofA, ofB, ofBias, biasColumns, ofQuotients, ofRemainders, records, ticketLength}
 use Rattle.ticket.specs.Laws.Layout.{parts-are, length-is, part-A, part-B, part-bias}
-use Rattle.ticket.specs.Laws.Limits.{bias-columns-most, clamped}
+use Rattle.ticket.specs.Laws.Limits.{bias-columns-most}
 use Rattle.writer.specs.Rules.{ticketOf, written, writing, outputAfter}
 use Rattle.writer.specs.Laws.Answers.{Writable, ticket-written, writing-of, output-refused, output-written}
-use Rattle.writer.specs.Laws.Entries.{limits, unclamped, long-A, long-B, long-C, small-A, small-B, small-C}
+use Rattle.writer.specs.Laws.Entries.{limits, long-A, long-B, long-C, small-A, small-B, small-C}
 use Rattle.writer.specs.Laws.Operands.{small-more}
 use Rattle.writer.specs.Laws.Lines.{OperandOf, OperandReady, OperandWrote}
 use Rattle.writer.specs.Laws.Records.{length-records, length-ticketOf, ticket-record, integer-A, integer-B, integer-bias}
 use Rattle.writer.specs.Laws.Rows.{ClaimsWrote}
 use Rattle.writer.specs.Laws.Writes.{Among, Both, wrote-more, wrote-all}
 
-module _ {G : Setting} {A B C : List ℤ} (w : Writable G A B C) {first : ℕ} where
-  pub of-A : first ≡ start (clamped G) ofA → OperandOf G A B C ofA 1 (G .rows) (G .inner) first A
-  of-A e = record { named = part-A G; count = long-A w; integers = integer-A G A B C; first-is = e ∙ ap (λ H. start H ofA) (unclamped w) }
+module _ {G : Setting} {A B C : List ℤ} (w : Writable G A B C) where
+  of-A : OperandOf G A B C ofA 1 (G .rows) (G .inner) 0 A
+  of-A = record { named = part-A G; count = long-A w; integers = integer-A G A B C; first-is = omega (arith, parts-are G) }
 
-  pub of-B : first ≡ start (clamped G) ofB → OperandOf G A B C ofB 2 (G .inner) (G .columns) first B
-  of-B e = record { named = part-B G; count = long-B w; integers = integer-B G A B C; first-is = e ∙ ap (λ H. start H ofB) (unclamped w) }
+  of-B : OperandOf G A B C ofB 2 (G .inner) (G .columns) (length A) B
+  of-B = record { named = part-B G; count = long-B w; integers = integer-B G A B C; first-is = omega (arith, parts-are G, long-A w) }
 
-  pub of-C : first ≡ start (clamped G) ofBias → OperandOf G A B C ofBias 5 (G .rows) (biasColumns G) first C
-  of-C e = record { named = part-bias G; count = long-C w; integers = integer-bias G A B C; first-is = e ∙ ap (λ H. start H ofBias) (unclamped w) }
+  of-C : OperandOf G A B C ofBias 5 (G .rows) (biasColumns G) (length A + length B) C
+  of-C =
+      record { named = part-bias G; count = long-C w; integers = integer-bias G A B C; first-is = omega (arith, parts-are G, long-A w, long-B w) }
 
   module _ {output : List ℕ} (room : ticketLength G ≤ length output) where
-    pub ready-A : first ≡ start (clamped G) ofA → OperandReady first (G .rows) (G .inner) A output
-    ready-A e =
+    pub ready-A : OperandReady 0 (G .rows) (G .inner) A output
+    ready-A =
         record {
           entries-small = small-more (omega arith) (small-A w);
           high = omega (arith, limits w .sizes .rows);
           wide = limits w .sizes .inner .1;
           count = long-A w;
-          room = omega (arith, of-A e .first-is, parts-are G, length-is G);
+          room = omega (arith, parts-are G, length-is G);
         }
 
-    pub ready-B : first ≡ start (clamped G) ofB → OperandReady first (G .inner) (G .columns) B output
-    ready-B e =
+    pub ready-B : OperandReady (length A) (G .inner) (G .columns) B output
+    ready-B =
         record {
           entries-small = small-more (omega arith) (small-B w);
           high = limits w .sizes .inner .1;
           wide = omega (arith, limits w .sizes .columns);
           count = long-B w;
-          room = omega (arith, of-B e .first-is, parts-are G, length-is G);
+          room = omega (arith, long-A w, parts-are G, length-is G);
         }
 
-    pub ready-C : first ≡ start (clamped G) ofBias → OperandReady first (G .rows) (biasColumns G) C output
-    ready-C e =
+    pub ready-C : OperandReady (length A + length B) (G .rows) (biasColumns G) C output
+    ready-C =
         record {
           entries-small = small-C w;
           high = omega (arith, limits w .sizes .rows);
           wide = omega (arith, limits w .sizes .columns, bias-columns-most G);
           count = long-C w;
-          room = omega (arith, of-C e .first-is, parts-are G, length-is G);
+          room = omega (arith, long-A w, long-B w, parts-are G, length-is G);
         }
 
 -- every record is one of the claims, of A, of B or of the bias
@@ -102,15 +103,14 @@ named-within G k =
     (⊎-elim (⊎-elim (⊎-elim (λ a. omega (arith, a .below)) (λ a. omega (arith, a .below))) (λ a. omega (arith, a .below))) (λ a. omega (arith, a .below)))
     (λ a. omega (arith, a .below))
 
-pub ticket-wrote : {G : Setting} {A B C : List ℤ} (w : Writable G A B C) {a b c : ℕ} {before x y z after : List ℕ} → ticketLength G ≤ length before
-    → ClaimsWrote G A B C (G .rows) before x → a ≡ start (clamped G) ofA → OperandWrote 1 (G .inner) a A x y
-    → b ≡ start (clamped G) ofB → OperandWrote 2 (G .columns) b B y z
-    → c ≡ start (clamped G) ofBias → OperandWrote 5 (biasColumns G) c C z after
+pub ticket-wrote : {G : Setting} {A B C : List ℤ} (w : Writable G A B C) {before x y z after : List ℕ} → ticketLength G ≤ length before
+    → ClaimsWrote G A B C (G .rows) before x → OperandWrote 1 (G .inner) 0 A x y → OperandWrote 2 (G .columns) (length A) B y z
+    → OperandWrote 5 (biasColumns G) (length A + length B) C z after
     → after ≡ ticketOf G A B C ++ drop (ticketLength G) before
-ticket-wrote {G} {A} {B} {C} w room claims a-is wrote-A b-is wrote-B c-is wrote-C =
-    let part-A = rw (of-A w a-is .first-is, long-A w) at (wrote-A .wrote G A B C ofA (G .rows) (of-A w a-is)) in
-    let part-B = rw (of-B w b-is .first-is, long-B w) at (wrote-B .wrote G A B C ofB (G .inner) (of-B w b-is)) in
-    let part-C = rw (of-C w c-is .first-is, long-C w) at (wrote-C .wrote G A B C ofBias (G .rows) (of-C w c-is)) in
+ticket-wrote {G} {A} {B} {C} w room claims wrote-A wrote-B wrote-C =
+    let part-A = rw (of-A w .first-is, long-A w) at (wrote-A .wrote G A B C ofA (G .rows) (of-A w)) in
+    let part-B = rw (of-B w .first-is, long-B w) at (wrote-B .wrote G A B C ofB (G .inner) (of-B w)) in
+    let part-C = rw (of-C w .first-is, long-C w) at (wrote-C .wrote G A B C ofBias (G .rows) (of-C w)) in
     rw (length-records G)
     (wrote-all (ticketOf G A B C)
     (wrote-more (wrote-more (wrote-more claims part-A (λ k. inl) (λ k. inr) (λ k s. s)) part-B (λ k. inl) (λ k. inr) (λ k s. s))
