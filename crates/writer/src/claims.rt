@@ -1,4 +1,4 @@
-// The claims: quotient and remainder of each exact sum, and their records.
+// The claims: quotient and remainder of each exact sum with its bias, and their records.
 ghost use mathlib.Core.Path.{_≡_};
 ghost use Prim.Native.Nat.{_≤_};
 ghost use lib.ListN.{length};

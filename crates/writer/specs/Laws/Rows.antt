@@ -3,7 +3,6 @@
 --   RowReady G h l C a s q r o   the sums s are those of a whole row, which has its bias in C from entry a on, and o has room for their
 --                                claims, from records q and r on
 --   RowOf G A B C i a s q r      s is the sums of row i of A, modulo 2^32, and a, q and r are where its bias and its claims begin
---   row-sum                      a sum of the row with the bias added is what its claim is made for
 --   RowTo G C i a s q r n o o'   the first n claims of the row are written, whatever operands these are of
 --   RowWrote G C i a s q r o o'  all are
 --   row-none, row-claim        no claim of the row is written yet, and one more
@@ -15,7 +14,6 @@
 --   RowsAt G i a x s q r       before row i: its entries begin at a, its claims at the records q and r, and x and s have room for the row
 --   RowRoom G A i a x q r      row i is inside A, and the records of its claims come early
 --   ClaimsWrote G A B C n o o'   the claims of the first n rows are written
---   bias-ready                 the bias has a row for each of A, or none at all
 --   claims-early               the claims come early in the ticket
 --   rows-begun, row-room, row-ready, rows-none, rows-next, rows-more   before the first row, before each, and after it
 use Prim.Native.Nat.{ℕ, _+_, _-_, _*_, _^_, _≤_, _<_}
@@ -82,6 +80,7 @@ bias-entry {G} {C = C} w row j =
     (λ e. no-bias w e (row * G .columns + j) ∙ sym (no-bias w e (row * biasColumns G + j)))
     (true-or-false (hasBias G))
 
+-- a sum of the row with the bias added is what its claim is made for
 row-sum : {G : Setting} {A B C : List ℤ} {row from quotients remainders : ℕ} {sums : List ℕ} → RowOf G A B C row from sums quotients remainders
     → (j : ℕ) → j < G .columns → biasedWord C (from + j) (getD sums j 0) ≡ leastResidue (2 ^ 32) (sumFor G A B C row j)
 row-sum {G} {A} {B} {C} {row} of j l =

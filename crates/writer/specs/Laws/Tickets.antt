@@ -1,7 +1,6 @@
 -- The whole ticket, as the code writes it: the operands and the claims.
 --
---   of-A, of-B, of-C     the operands and the bias are what the first three parts stand for, one after the other
---   ready-A, ready-B, ready-C   what writing them asks for
+--   ready-A, ready-B, ready-C   what writing the operands and the bias asks for, one after the other
 --   ticket-wrote         the operands and the claims are the ticket
 --   Wrote-as-ruled G A B C o a o'   the answer a and the output o' are those of the rules, for the output o
 --   refused, all-written   so they are where the writer refuses, and where it writes the ticket
@@ -28,6 +27,7 @@ use Rattle.writer.specs.Laws.Rows.{ClaimsWrote}
 use Rattle.writer.specs.Laws.Writes.{Among, Both, wrote-more, wrote-all}
 
 module _ {G : Setting} {A B C : List ℤ} (w : Writable G A B C) where
+  -- the operands and the bias are what the first three parts stand for
   of-A : OperandOf G A B C ofA 1 (G .rows) (G .inner) 0 A
   of-A = record { named = part-A G; count = long-A w; integers = integer-A G A B C; first-is = omega (arith, parts-are G) }
 
