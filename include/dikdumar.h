@@ -85,6 +85,7 @@ typedef struct {
     uint32_t scale;   /* a, by which sums are divided: 2 to 65536 */
     uint32_t bound;   /* T, entries of A and B are from -T to T: 1 to 32767 */
     uint32_t width;   /* v, quotients are from -2^(v-1) to 2^(v-1) - 1: 1 to 30 */
+    uint32_t rounding; /* o, added to a sum before it is divided: 0 to a - 1 */
 } dikdumar_setting;
 
 /*

@@ -8,6 +8,7 @@
 --   Vectors    all vectors of a list
 --   Checks     the whole check (C1)
 --   Kinds      the check without a bias, and with one (B3)
+--   Rounding   the check with the rounding number 0 (O3)
 pub mod Lists
 pub mod Shifts
 pub mod Products
@@ -16,3 +17,4 @@ pub mod Sides
 pub mod Vectors
 pub mod Checks
 pub mod Kinds
+pub mod Rounding

@@ -1,17 +1,17 @@
--- The marked examples a to k, under the setting K, with the bytes of record 8 and of the whole written ticket, and -17 over 10, and
--- then K with a bias: one table that the checker computes over the rules.
+-- The marked examples a to k, under the setting K, with the bytes of record 8 and of the whole written ticket, and -17 over 10, then K
+-- with a bias and K with a rounding number: one table that the checker computes over the rules.
 use Prim.Native.Nat.{ℕ, _+_, _-_, _*_, _/_, _%_}
 use mathlib.Core.Path.{_≡_, refl}
 use mathlib.Core.List.{List, [], _∷_, _++_, map}
-use lib.IntN.{ℤ, pos, negℤ}
+use lib.IntN.{ℤ, pos, negℤ, _-ℤ_, _*ℤ_}
 use lib.ListN.{take, drop}
 use Rattle.residue.specs.Rules.{modulus, leastResidue, signedEntry}
 use Rattle.algebra.specs.Rules.{sumℤ, matrixProduct, floorDivision}
 use Rattle.ticket.specs.declared.setting.Setting.{Setting}
 use Rattle.ticket.specs.declared.published.PlainSetting.{PlainSetting}
 use Rattle.ticket.specs.declared.Answer.{Answer}
-use Rattle.ticket.specs.Rules.{first, answer, scan, after, firstFailed, sizesWithin, numbersWithin, fits, settingTests, settingNumber, isEntry, shiftedQuotient, parts, part, count, start, records, recordBytes, ticketLength, holder, valueAt, formed, partTests, recordTests, firstRefusal, recordsReading, reading, valueIn, entryA, entryB, quotient, remainder, claim, exactSum, biasedSum, due, plain, withBias, hasBias, biasBound, biasColumns, biasWithin, mostBiasBound, entryBias}
-use Rattle.ticket.specs.Examples.{trueTicket, biasTicket}
+use Rattle.ticket.specs.Rules.{first, answer, scan, after, firstFailed, sizesWithin, numbersWithin, fits, settingTests, settingNumber, isEntry, shiftedQuotient, parts, part, count, start, records, recordBytes, ticketLength, holder, valueAt, formed, partTests, recordTests, firstRefusal, recordsReading, reading, valueIn, entryA, entryB, quotient, remainder, claim, exactSum, biasedSum, due, plain, withBias, hasBias, biasBound, biasColumns, biasWithin, roundingWithin, mostBiasBound, entryBias, dividend}
+use Rattle.ticket.specs.Examples.{trueTicket, biasTicket, roundedTicket}
 use Rattle.challenge.specs.Rules.{listNumber, listReading, productB, claimSide, operandSide, balanced, firstRow, verdict, challengeCheck}
 use Rattle.full.specs.Rules.{same, holds, fullVerdict, fullCheck}
 use Rattle.writer.specs.Rules.{joined, beyondNumber, operandsReading, writing, quotientOf, remainderOf, integersOf, integerIn, recordOf, ticketRecord, ticketOf}
@@ -44,16 +44,22 @@ ticket c =
     ++ recordsFrom 3 (c .setting .columns) 0 (c .quotient)
     ++ recordsFrom 4 (c .setting .columns) 0 (c .remainder)
 
--- the public numbers of K, but for the inner size, the scale, the bound and the width
-numbers : ℕ → ℕ → ℕ → ℕ → PlainSetting
-numbers m α T v = record { rows = 2; inner = m; columns = 2; vectors = 1; scale = α; bound = T; width = v }
+-- the public numbers of K, but for the inner size, the scale, the bound, the width and the rounding number
+numbers : ℕ → ℕ → ℕ → ℕ → ℕ → PlainSetting
+numbers m α T v o = record { rows = 2; inner = m; columns = 2; vectors = 1; scale = α; bound = T; width = v; rounding = o }
 
--- the setting without a bias, and K with one of bound W
+-- the setting without a bias and without rounding, K with a bias of bound W, K with the rounding number o, and with both
 setting : ℕ → ℕ → ℕ → ℕ → Setting
-setting m α T v = plain (numbers m α T v)
+setting m α T v = plain (numbers m α T v 0)
 
 biased : ℕ → Setting
-biased W = withBias (numbers 2 10 8 5) W
+biased W = withBias (numbers 2 10 8 5 0) W
+
+rounded : ℕ → Setting
+rounded o = plain (numbers 2 10 8 5 o)
+
+both : ℕ → ℕ → Setting
+both o W = withBias (numbers 2 10 8 5 o) W
 
 -- A and B with this bias and these quotients and remainders, under the setting G
 under : Setting → List ℤ → List ℤ → List ℤ → Case
@@ -96,11 +102,24 @@ changed q q' = claiming 8 (q ∷ q' ∷ pos 2 ∷ minus 1 ∷ []) trueRemainders
 trueCase : Case
 trueCase = changed (minus 2) (pos 3)
 
+-- under K with the rounding number o, the claims for the sums, rounded to the nearest
+roundedBy : ℕ → Case
+roundedBy o = under (rounded o) [] (minus 2 ∷ pos 3 ∷ pos 2 ∷ pos 0 ∷ []) (pos 8 ∷ pos 9 ∷ pos 8 ∷ pos 3 ∷ [])
+
+-- and with a bias, the claims for -21, 52, 5 and 3, likewise
+roundedBias : Case
+roundedBias =
+    under (both 5 18) (minus 4 ∷ pos 18 ∷ minus 18 ∷ pos 5 ∷ []) (minus 2 ∷ pos 5 ∷ pos 1 ∷ pos 0 ∷ []) (pos 4 ∷ pos 7 ∷ pos 0 ∷ pos 8 ∷ [])
+
+-- the claims of the true case, under K with the rounding number 5
+unrounded : Case
+unrounded = under (rounded 5) [] (minus 2 ∷ pos 3 ∷ pos 2 ∷ minus 1 ∷ []) trueRemainders
+
 -- each with what is expected last: where the parts of a ticket start, and which part each of some records is in; the sums S, or S + c,
 -- with which the claims are compared; what the claims put for them; quotients and remainders, as read; the bytes of a
 -- record; u, for a vector, as signed entries; the two sides, for a vector; the answer of the reading and range checks; the answer
 -- of the challenge check; that of the full check; that of the writer for an output of so many bytes; the written ticket; the number of
--- a setting; an integer over a number, rounded down
+-- a setting; an integer over a number, rounded down; quotient and remainder of a sum, under a setting
 data Example : Type 0 where
   starts : Setting → List ℕ → Example
   held : Setting → List ℕ → List ℕ → Example
@@ -117,6 +136,7 @@ data Example : Type 0 where
   writes : Case → List ℕ → Example
   limits : Setting → ℕ → Example
   floors : ℤ → ℕ → ℤ → Example
+  rounds : Setting → ℤ → ℤ → ℤ → Example
 
 examples : List Example
 examples =
@@ -190,6 +210,48 @@ examples =
     ∷ answers (biasedBy 23 []) 160 (answer 13 2 0 0)
     ∷ answers (biasedBy 23 (biasOf (minus 4) (pos 24))) 160 (answer 18 11 0 0)
     ∷ answers biasCase 159 (answer 15 0 0 0)
+    -- K with the rounding number 5 fits: 142 ≤ 160. Rounding is to the nearest, halves up, also below zero
+    ∷ limits (rounded 5) 0
+    ∷ rounds (rounded 5) (minus 17) (minus 2) (pos 8)
+    ∷ rounds (rounded 5) (pos 25) (pos 3) (pos 0)
+    ∷ rounds (rounded 5) (pos 24) (pos 2) (pos 9)
+    ∷ rounds (rounded 5) (minus 15) (minus 1) (pos 0)
+    -- test 19, after 2 and 17, and before 3; the fit through the rounding number
+    ∷ limits (rounded 9) 0
+    ∷ limits (rounded 10) 19
+    ∷ limits (rounded 4_294_967_295) 19
+    ∷ limits (plain (numbers 2 1 8 5 1)) 2
+    ∷ limits (both 10 1_073_741_825) 17
+    ∷ limits (both 10 1_073_741_824) 19
+    ∷ limits (plain (numbers 2 10 9 5 10)) 19
+    ∷ limits (plain (numbers 2 10 9 5 9)) 3
+    ∷ limits (plain (numbers 1 10 12 5 7)) 0
+    ∷ limits (plain (numbers 1 10 12 5 8)) 3
+    -- its true ticket, which is false without the rounding number, and the one that is true without, with it
+    ∷ sums (roundedBy 5) (minus 17 ∷ pos 34 ∷ pos 23 ∷ minus 2 ∷ [])
+    ∷ claims (roundedBy 5) (minus 17 ∷ pos 34 ∷ pos 23 ∷ minus 2 ∷ [])
+    ∷ answers (roundedBy 5) 128 (answer 0 128 0 8)
+    ∷ writes (roundedBy 5) roundedTicket
+    ∷ sides (roundedBy 5) (1 ∷ 2 ∷ []) (51 ∷ 19 ∷ []) (51 ∷ 19 ∷ [])
+    ∷ checks (roundedBy 5) (1 ∷ 2 ∷ []) (answer 0 0 0 12)
+    ∷ checksAll (roundedBy 5) (answer 0 0 0 8)
+    ∷ claims (roundedBy 0) (minus 12 ∷ pos 39 ∷ pos 28 ∷ pos 3 ∷ [])
+    ∷ checks (roundedBy 0) (1 ∷ 2 ∷ []) (answer 12 0 0 8)
+    ∷ checksAll (roundedBy 0) (answer 16 0 0 2)
+    ∷ claims unrounded (minus 22 ∷ pos 29 ∷ pos 18 ∷ minus 7 ∷ [])
+    ∷ checks unrounded (1 ∷ 2 ∷ []) (answer 12 0 0 8)
+    ∷ checksAll unrounded (answer 16 0 0 2)
+    -- all claims are out by 5, and a vector whose numbers sum to 0 does not show it
+    ∷ checks unrounded (1 ∷ (modulus - 1) ∷ []) (answer 0 0 0 12)
+    -- and with a bias: W = 18 fits, W = 19 does not
+    ∷ limits (both 5 18) 0
+    ∷ limits (both 5 19) 3
+    ∷ sums roundedBias (minus 21 ∷ pos 52 ∷ pos 5 ∷ pos 3 ∷ [])
+    ∷ claims roundedBias (minus 21 ∷ pos 52 ∷ pos 5 ∷ pos 3 ∷ [])
+    ∷ answers roundedBias 160 (answer 0 160 0 8)
+    ∷ writes roundedBias (ticket roundedBias)
+    ∷ checks roundedBias (1 ∷ 2 ∷ []) (answer 0 0 0 16)
+    ∷ checksAll roundedBias (answer 0 0 0 8)
     ∷ []
 
 -- of each claim, row by row
@@ -213,14 +275,16 @@ by-rules (answers c n _) = answers c n (writing (c .setting) (c .A) (c .B) (c .b
 by-rules (writes c _) = writes c (ticketOf (c .setting) (c .A) (c .B) (c .bias))
 by-rules (limits G _) = limits G (settingNumber G)
 by-rules (floors z d _) = floors z d (floorDivision z d)
+by-rules (rounds G S _ _) =
+    let q = floorDivision (dividend G S) (G .scale) in rounds G S q (dividend G S -ℤ pos (G .scale) *ℤ q)
 
 examples-hold : map by-rules examples ≡ examples
 unfolding modulus leastResidue signedEntry sumℤ matrixProduct floorDivision first scan after firstFailed sizesWithin numbersWithin fits
     settingTests isEntry shiftedQuotient parts part count start records ticketLength holder valueAt formed partTests recordTests firstRefusal
-    recordsReading reading valueIn entryA entryB quotient remainder claim exactSum biasedSum hasBias biasBound biasColumns biasWithin entryBias
-    listNumber listReading productB claimSide operandSide
+    recordsReading reading valueIn entryA entryB quotient remainder claim exactSum biasedSum hasBias biasBound biasColumns biasWithin
+    roundingWithin entryBias listNumber listReading productB claimSide operandSide
     balanced firstRow verdict challengeCheck same holds fullVerdict fullCheck joined beyondNumber operandsReading writing quotientOf
-    remainderOf integersOf integerIn recordOf ticketRecord ticketOf minus recordsFrom ticket numbers setting biased under claiming
-    biasedBy biasOf biasCase falseBias trueRemainders trueCase changed
-    trueTicket biasTicket examples each by-rules
+    remainderOf integersOf integerIn recordOf ticketRecord ticketOf minus recordsFrom ticket numbers setting biased rounded both under claiming
+    biasedBy biasOf biasCase falseBias trueRemainders trueCase changed roundedBy roundedBias unrounded trueTicket biasTicket roundedTicket
+    examples each by-rules
 examples-hold = refl

@@ -7,19 +7,23 @@ use lib.ListN.{take}
 use Rattle.residue.specs.Rules.{modulus, leastResidue, signedEntry}
 use Rattle.algebra.specs.Rules.{sumℤ}
 use Rattle.ticket.specs.declared.Answer.{Answer}
-use Rattle.ticket.specs.Rules.{answer, first, scan, after, firstFailed, sizesWithin, numbersWithin, fits, settingTests, isEntry, shiftedQuotient, parts, part, count, start, records, ticketLength, holder, valueAt, formed, partTests, recordTests, firstRefusal, recordsReading, reading, valueIn, entryA, entryB, quotient, remainder, claim, hasBias, biasBound, biasColumns, biasWithin, entryBias}
-use Rattle.ticket.specs.Examples.{trueTicket}
+use Rattle.ticket.specs.Rules.{answer, first, scan, after, firstFailed, sizesWithin, numbersWithin, fits, settingTests, isEntry, shiftedQuotient, parts, part, count, start, records, ticketLength, holder, valueAt, formed, partTests, recordTests, firstRefusal, recordsReading, reading, valueIn, entryA, entryB, quotient, remainder, claim, hasBias, biasBound, biasColumns, biasWithin, roundingWithin, entryBias}
+use Rattle.ticket.specs.Examples.{trueTicket, roundedTicket}
 use Rattle.challenge.specs.Rules.{listNumber, listReading, productB, claimSide, operandSide, balanced, firstRow, verdict, challengeCheck}
 use Rattle.files.specs.Rules.{wordAt, settingOf, numbersOf, fileCheck, digitsOf, decimal, field, lineOf}
 
--- ℓ = m = n = 2, s = 1, α = 10, T = 8, v = 5
-setting : List ℕ
-setting =
+-- ℓ = m = n = 2, s = 1, α = 10, T = 8, v = 5, and o, of one byte
+rounded : ℕ → List ℕ
+rounded o =
     0x02 ∷ 0x02 ∷ 0x02 ∷ 0x01
     ∷ 0x0A ∷ 0x00 ∷ 0x00 ∷ 0x00
     ∷ 0x08 ∷ 0x00 ∷ 0x00 ∷ 0x00
     ∷ 0x05 ∷ 0x00 ∷ 0x00 ∷ 0x00
+    ∷ o ∷ 0x00 ∷ 0x00 ∷ 0x00
     ∷ []
+
+setting : List ℕ
+setting = rounded 0
 
 -- the vector (1, 2)
 challenge : List ℕ
@@ -36,9 +40,15 @@ examples =
     -- c: the line 0 0 0 12
     answers setting trueTicket challenge (answer 0 0 0 12)
     ∷ prints setting trueTicket challenge (48 ∷ 32 ∷ 48 ∷ 32 ∷ 48 ∷ 32 ∷ 49 ∷ 50 ∷ 10 ∷ [])
-    -- a setting file of 15 bytes and one of 17
-    ∷ answers (take 15 setting) trueTicket challenge (answer 1 0 0 0)
+    -- a setting file of 19 bytes and one of 21, and one as it was before there was a rounding number, of 16
+    ∷ answers (take 19 setting) trueTicket challenge (answer 1 0 0 0)
     ∷ answers (setting ++ (0x00 ∷ [])) trueTicket challenge (answer 1 0 0 0)
+    ∷ answers (take 16 setting) trueTicket challenge (answer 1 0 0 0)
+    -- the ticket that is true with o = 5, with o = 5, with o = 0, and with o = 10; o = 1,280, whose second byte is 5
+    ∷ answers (rounded 5) roundedTicket challenge (answer 0 0 0 12)
+    ∷ answers setting roundedTicket challenge (answer 12 0 0 8)
+    ∷ answers (rounded 10) roundedTicket challenge (answer 19 0 0 0)
+    ∷ answers (take 16 setting ++ (0x00 ∷ 0x05 ∷ 0x00 ∷ 0x00 ∷ [])) roundedTicket challenge (answer 19 0 0 0)
     -- no ticket
     ∷ answers setting [] challenge (answer 4 0 0 0)
     -- a challenge file of 7 bytes and one of 9, and none
@@ -64,8 +74,8 @@ by-rules (spells n _) = spells n (decimal n)
 examples-hold : map by-rules examples ≡ examples
 unfolding modulus leastResidue signedEntry sumℤ first scan after firstFailed sizesWithin numbersWithin fits settingTests isEntry
     shiftedQuotient parts part count start records ticketLength holder valueAt formed partTests recordTests firstRefusal recordsReading
-    reading valueIn entryA entryB quotient remainder claim hasBias biasBound biasColumns biasWithin entryBias
+    reading valueIn entryA entryB quotient remainder claim hasBias biasBound biasColumns biasWithin roundingWithin entryBias
     listNumber listReading productB claimSide operandSide balanced firstRow
-    verdict challengeCheck wordAt settingOf numbersOf fileCheck digitsOf decimal field lineOf setting trueTicket challenge examples
+    verdict challengeCheck wordAt settingOf numbersOf fileCheck digitsOf decimal field lineOf rounded setting trueTicket roundedTicket challenge examples
     by-rules
 examples-hold = refl

@@ -4,7 +4,7 @@
 --   settingBytes       the bytes of a setting file
 --   numberBytes        the bytes of a number in a file
 --   wordAt b i         the number that begins at byte i of b
---   settingOf b        the setting that b stands for, without a bias: ℓ, m, n, s one byte each, then α, T, v four bytes each
+--   settingOf b        the setting that b stands for, without a bias: ℓ, m, n, s one byte each, then α, T, v, o four bytes each
 --   numbersOf b        the 4-byte numbers of b, one after another
 --   fileCheck s t c    the answer of the program, for the bytes of setting.rec, ticket.rec and challenge.rec
 --   digit d            the byte of the digit d, in ASCII
@@ -27,7 +27,7 @@ use Rattle.challenge.specs.Rules.{challengeCheck}
 -- the files
 
 abbrev pub settingBytes : ℕ
-settingBytes = 16
+settingBytes = 20
 
 abbrev pub numberBytes : ℕ
 numberBytes = 4
@@ -46,6 +46,7 @@ settingOf bytes =
       scale = wordAt bytes 4;
       bound = wordAt bytes 8;
       width = wordAt bytes 12;
+      rounding = wordAt bytes 16;
     })
 
 -- fewer than four bytes hold no number

@@ -13,7 +13,7 @@ use ticket::word;
 // One more number than any list has.
 const NUMBERS: usize = LONGEST_CHALLENGE / NUMBER + 1;
 
-// The setting in a file of 16 bytes, which has no bias.
+// The setting in a file of 20 bytes, which has no bias.
 pub(crate) fn setting_of(bytes: &[u8]) -> Setting
     ensures { λ r. ⌜ r ≡ settingOf (now (bytes .entry)) ⌝ }
 {
@@ -25,6 +25,7 @@ pub(crate) fn setting_of(bytes: &[u8]) -> Setting
         scale: word_at(bytes, 4),
         bound: word_at(bytes, 8),
         width: word_at(bytes, 12),
+        rounding: word_at(bytes, 16),
     }.plain()
 }
 

@@ -15,7 +15,7 @@ pub use text::LONGEST_LINE;
 pub use text::line;
 
 // The bytes of a setting file.
-pub const SETTING_BYTES: usize = 16;
+pub const SETTING_BYTES: usize = 20;
 
 // The bytes of a number in a challenge file.
 const NUMBER: usize = 4;

@@ -78,11 +78,13 @@ fn decode_and_compare(
     ticket::narrow_entries(b, rows);
     exact::turn(rows, setting.inner as u16, setting.columns as u16, columns);
     ticket::narrow_entries(a, rows);
-    ticket::lifted_claims(quotients, remainders, setting.half(), setting.scale, claims);
+    let half = setting.half();
+    ticket::lifted_claims(quotients, remainders, half, setting.scale, claims);
     ticket::subtract_entries(bias, claims);
     let width = setting.columns as usize;
+    let lift = setting.lift_of(half) as u32;
     let mut sums = [0; ROW];
-    compare(setting, rows, columns, claims, &mut sums[..width])
+    compare(setting, rows, columns, claims, &mut sums[..width], lift)
 }
 
 // Each sum, row by row, against its claim, with room for the sums of a row. Sums and claims are lifted, and compared modulo 2^32: they
@@ -93,11 +95,11 @@ fn compare(
     columns: &[i16],
     claims: &[u32],
     sums: &mut [u32],
+    lift: u32,
 ) -> Answer
-    requires { ⌜ SumsReady setting (now rows) (now columns) (now claims) (length (now sums)) ⌝ }
+    requires { ⌜ SumsReady setting (now rows) (now columns) (now claims) (length (now sums)) lift ⌝ }
     ensures { λ r. ⌜ r ≡ steps-answer (sumSteps setting (now (rows .entry)) (now (columns .entry)) (now (claims .entry))) ⌝ }
 {
-    let lift = setting.lift() as u32;
     let mut answer = Answer::PASSED;
     let mut row: u32 = 0;
     while row < setting.rows {

@@ -16,7 +16,8 @@
 --   Lifts         an exact sum, lifted so that it is not negative
 --   Differences   how far the claims are from the exact sums
 --   Decodes       what entries and claims are decoded to
---   Kinds         settings without a bias, and with one (B1, B3)
+--   Kinds         settings without a bias, and with one (B1, B3); where test 19 stands (O1)
+--   Rounding      settings whose rounding number is 0 (O3)
 pub mod First
 pub mod Scans
 pub mod Answers
@@ -34,3 +35,4 @@ pub mod Lifts
 pub mod Differences
 pub mod Decodes
 pub mod Kinds
+pub mod Rounding

@@ -1,4 +1,4 @@
--- The setting, the ticket and the reading and range checks (tests 1 to 9, 17 and 18): the rules. They are all that a reader has to
+-- The setting, the ticket and the reading and range checks (tests 1 to 9 and 17 to 19): the rules. They are all that a reader has to
 -- believe beside those of the residue and algebra crates; nothing is proved here. G is a setting, with a bias or without, t the bytes
 -- of a ticket, w a part's number. A ticket without a bias is one whose bias part has no records.
 --
@@ -18,9 +18,8 @@
 --   biasColumns G        the columns of the bias: as many as those of the claims, 0 where there is none
 --   reach G              the largest size of what a claim is compared with
 --   halfRange G          half of the quotients' range
---   lift G               that times the scale: with it added, neither a sum nor what a claim puts for it is negative
---   sizesWithin G, numbersWithin G, biasWithin G, fits G   the limits and the fit
---   settingTests G       tests 1, 2, 17 and 3, in order
+--   sizesWithin G, numbersWithin G, biasWithin G, roundingWithin G, fits G   the limits and the fit
+--   settingTests G       tests 1, 2, 17, 19 and 3, in order
 --   settingNumber G      the first of them that fails, 0 where none does
 --   sumProducts G        how many products all exact sums take
 --   isEntry T x          the value x stands for a number from -T to T
@@ -49,10 +48,11 @@
 --   valueIn G t w i j    the value in row i, column j of part w
 --   entryA G t i k, entryB G t k j, quotient G t i j, remainder G t i j   the integers that the records stand for
 --   entryBias G t i j    the bias entry c, 0 where there is no bias
---   claim G t i j        what the claim puts for its sum: scale times quotient plus remainder
+--   claim G t i j        what the claim puts for its sum: scale times quotient plus remainder less the rounding number
 --   exactSum G A B i j   the exact sum of row i of A times column j of B
 --   biasedSum G A B C i j   that and the entry of C there: S + c
 --   due G t i j          what the claim is compared with: S + c of the ticket's operands and bias
+--   dividend G S         what is divided by the scale for the sum S: S + o, with the rounding number o
 --   Untrue G t i j       the claim in row i, column j is untrue
 --   FalseIn G t j        the ticket is false in column j: some row's claim there is untrue
 use Prim.Native.Nat.{ℕ, zero, suc, _+_, _-_, _*_, _/_, _%_, _^_, _<_}
@@ -143,6 +143,7 @@ numbered P biased W =
       scale = P .scale;
       bound = P .bound;
       width = P .width;
+      rounding = P .rounding;
       biased = biased;
       bias = W;
     }
@@ -168,9 +169,6 @@ reach G = G .inner * (G .bound * G .bound) + biasBound G
 abbrev pub halfRange : Setting → ℕ
 halfRange G = 2 ^ (G .width - 1)
 
-abbrev pub lift : Setting → ℕ
-lift G = halfRange G * G .scale
-
 unfoldable pub sizesWithin : Setting → Bool
 sizesWithin G =
     within 1 mostRows (G .rows)
@@ -184,11 +182,20 @@ numbersWithin G = within 2 mostScale (G .scale) && within 1 mostBound (G .bound)
 unfoldable pub biasWithin : Setting → Bool
 biasWithin G = leb (biasBound G) mostBiasBound
 
+unfoldable pub roundingWithin : Setting → Bool
+roundingWithin G = ltb (G .rounding) (G .scale)
+
 unfoldable pub fits : Setting → Bool
-fits G = leb (reach G + G .scale - 1) (lift G) && ltb (2 ^ G .width * G .scale) modulus
+fits G = leb (reach G + G .rounding + G .scale - 1) (halfRange G * G .scale) && ltb (2 ^ G .width * G .scale) modulus
 
 unfoldable pub settingTests : Setting → List Test
-settingTests G = test (sizesWithin G) 1 ∷ test (numbersWithin G) 2 ∷ test (biasWithin G) 17 ∷ test (fits G) 3 ∷ []
+settingTests G =
+    test (sizesWithin G) 1
+    ∷ test (numbersWithin G) 2
+    ∷ test (biasWithin G) 17
+    ∷ test (roundingWithin G) 19
+    ∷ test (fits G) 3
+    ∷ []
 
 abbrev pub settingNumber : Setting → ℕ
 settingNumber G = firstFailed (settingTests G)
@@ -333,7 +340,7 @@ unfoldable pub remainder : Setting → List ℕ → ℕ → ℕ → ℤ
 remainder G t i j = pos (valueIn G t ofRemainders i j)
 
 unfoldable pub claim : Setting → List ℕ → ℕ → ℕ → ℤ
-claim G t i j = pos (G .scale) *ℤ quotient G t i j +ℤ remainder G t i j
+claim G t i j = pos (G .scale) *ℤ quotient G t i j +ℤ remainder G t i j -ℤ pos (G .rounding)
 
 unfoldable pub exactSum : Setting → (ℕ → ℕ → ℤ) → (ℕ → ℕ → ℤ) → ℕ → ℕ → ℤ
 exactSum G A B i j = matrixProduct (G .inner) A B i j
@@ -343,6 +350,9 @@ biasedSum G A B C i j = exactSum G A B i j +ℤ C i j
 
 abbrev pub due : Setting → List ℕ → ℕ → ℕ → ℤ
 due G t = biasedSum G (entryA G t) (entryB G t) (entryBias G t)
+
+abbrev pub dividend : Setting → ℤ → ℤ
+dividend G S = S +ℤ pos (G .rounding)
 
 abbrev pub Untrue : Setting → List ℕ → ℕ → ℕ → Type 0
 Untrue G t i j = claim G t i j ≡ due G t i j → ⊥

@@ -17,6 +17,8 @@ pub struct PlainSetting {
     pub bound: u32,
     // the bits of a shifted quotient
     pub width: u32,
+    // what is added to a sum before it is divided
+    pub rounding: u32,
 }
 
 // The same of a layer with a bias.
@@ -47,6 +49,7 @@ impl PlainSetting {
             scale: self.scale,
             bound: self.bound,
             width: self.width,
+            rounding: self.rounding,
             biased,
             bias,
         }

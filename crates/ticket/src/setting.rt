@@ -1,9 +1,9 @@
-// The setting: its tests, 1, 2, 17 and 3, and what it says of a ticket. The calls that say this take every setting; of one beyond its
+// The setting: its tests, 1, 2, 17, 19 and 3, and what it says of a ticket. The calls that say this take every setting; of one beyond its
 // limits they say what the limits come to, so that nothing wraps.
 ghost use mathlib.Core.Path.{_≡_};
-ghost use Prim.Native.Nat.{_*_, min};
-ghost use Rattle.ticket.specs.Rules.{unless, sizesWithin, numbersWithin, biasWithin, within};
-ghost use Rattle.ticket.specs.Rules.{biasBound, biasColumns, part, partSize, start, ticketLength, halfRange, lift, sumProducts};
+ghost use Prim.Native.Nat.{_+_, _*_, min};
+ghost use Rattle.ticket.specs.Rules.{unless, sizesWithin, numbersWithin, biasWithin, roundingWithin, within};
+ghost use Rattle.ticket.specs.Rules.{biasBound, biasColumns, part, partSize, start, ticketLength, halfRange, sumProducts};
 ghost use Rattle.ticket.specs.Laws.Limits.{Sizes, Numbers, Clamped, clamped, fitsBy, numberBy};
 use crate::parts::RECORD;
 use residue::Residue;
@@ -17,6 +17,7 @@ pub struct Setting {
     pub scale: u32,
     pub bound: u32,
     pub width: u32,
+    pub rounding: u32,
     // above 0 where a bias is added to each sum; else its bound is not read. A word, so that a setting is copied in whole words
     pub biased: u32,
     pub bias: u32,
@@ -67,7 +68,7 @@ impl Setting {
             + Setting::MOST_INNER * Setting::MOST_COLUMNS
             + 2 * (Setting::MOST_ROWS * Setting::MOST_COLUMNS)) as usize;
 
-    // The first of the tests 1, 2, 17 and 3 that the setting fails, 0 where it passes them; by half of the quotients' range, which
+    // The first of the tests 1, 2, 17, 19 and 3 that the setting fails, 0 where it passes them; by half of the quotients' range, which
     // the caller has worked out.
     pub fn number_of(self, half: Residue) -> u32
         ensures { λ r. ⌜ r ≡ numberBy self (half .0) ⌝ }
@@ -78,7 +79,9 @@ impl Setting {
         if !self.numbers_within() {
             return 2;
         }
-        unless(self.bias_within(), 17, unless(self.fits(half), 3, 0))
+        let fitting = unless(self.fits(half), 3, 0);
+        let rounding = unless(self.rounding_within(), 19, fitting);
+        unless(self.bias_within(), 17, rounding)
     }
 
     // The largest absolute value of a bias entry; 0 where there is no bias.
@@ -168,18 +171,12 @@ impl Setting {
         Residue::power_of_two(width - 1)
     }
 
-    // What is added to a sum, and to what a claim puts for it, so that neither is negative.
-    pub fn lift(self) -> u64
-        ensures { λ r. ⌜ r ≡ lift (clamped self) ⌝ }
-    {
-        self.lift_of(self.half())
-    }
-
-    // The same, where half of the quotients' range is there already.
+    // What is added to a sum, and to what a claim puts for it, so that neither is negative and the sum can be divided; by half of the
+    // quotients' range, which the caller has worked out.
     pub fn lift_of(self, half: Residue) -> u64
-        ensures { λ r. ⌜ r ≡ half .0 * clamped self .scale ⌝ }
+        ensures { λ r. ⌜ r ≡ half .0 * clamped self .scale + self .rounding ⌝ }
     {
-        (half.0 as u64) * (self.clamped().scale as u64)
+        (half.0 as u64) * (self.clamped().scale as u64) + (self.rounding as u64)
     }
 
     // How many products all sums take.
@@ -201,6 +198,7 @@ impl Setting {
             scale: least(self.scale, Setting::MOST_SCALE),
             bound: self.bound,
             width: least(self.width, Setting::MOST_WIDTH),
+            rounding: self.rounding,
             biased: self.biased,
             bias: self.bias,
         }
@@ -229,15 +227,22 @@ impl Setting {
         self.largest_bias() <= Setting::MOST_BIAS_BOUND
     }
 
+    fn rounding_within(self) -> bool
+        ensures { λ r. ⌜ r ≡ roundingWithin self ⌝ }
+    {
+        self.rounding < self.scale
+    }
+
     fn fits(self, half: Residue) -> bool
         requires { ⌜ Sizes self × Numbers self ⌝ }
         ensures { λ r. ⌜ r ≡ fitsBy self (half .0) ⌝ }
     {
         let bound = self.bound as u64;
         let sum = (self.inner as u64) * (bound * bound);
-        let reach = sum + (self.largest_bias() as u64) + (self.scale as u64) - 1;
-        let lift = self.lift_of(half);
-        (reach <= lift) & (2 * lift < Residue::modulus() as u64)
+        let reach = sum + (self.largest_bias() as u64);
+        let scale = self.scale as u64;
+        let most = (half.0 as u64) * scale;
+        (reach + (self.rounding as u64) + scale - 1 <= most) & (2 * most < Residue::modulus() as u64)
     }
 }
 

@@ -10,6 +10,7 @@
 --   Rows       the records of the claims, row by row
 --   Tickets    the whole ticket
 --   Kinds      the writer without a bias (B3)
+--   Rounding   the writer with the rounding number 0 (O3)
 pub mod Writes
 pub mod Records
 pub mod Operands
@@ -20,3 +21,4 @@ pub mod Entries
 pub mod Rows
 pub mod Tickets
 pub mod Kinds
+pub mod Rounding

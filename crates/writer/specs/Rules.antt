@@ -1,4 +1,4 @@
--- The ticket writer (tests 1 to 3, 13 to 15, 17 and 18): the rules. They are all that a reader has to believe beside those of the
+-- The ticket writer (tests 1 to 3, 13 to 15 and 17 to 19): the rules. They are all that a reader has to believe beside those of the
 -- crates below; nothing is proved here. G is a setting, A and B the operands and C the bias, each row by row (C is empty where there
 -- is none), o the bytes of the output.
 --
@@ -9,7 +9,7 @@
 --   writing G A B C s       the answer of the writer, for an output of s bytes
 --   entryOf n X i j       the number in row i, column j of a matrix X of n columns
 --   sumFor G A B C i j    what the claim there is made for: the exact sum S of row i of A times column j of B, and the bias c
---   quotientOf, remainderOf G A B C i j   S + c over the scale, rounded down, and what is left
+--   quotientOf, remainderOf G A B C i j   what is divided for it, over the scale, rounded down, and what is left
 --   integersOf G A B C      the integers that the parts of the ticket stand for, in the order of the parts
 --   integerIn G A B C w i j   that in row i, column j of part w
 --   recordOf κ i j w      the bytes of a record: kind κ, a zero byte, row i, column j, and the value w, little-endian
@@ -26,7 +26,7 @@ use Rattle.residue.specs.Rules.{modulus, leastResidue}
 use Rattle.algebra.specs.Rules.{floorDivision}
 use Rattle.ticket.specs.declared.setting.Setting.{Setting}
 use Rattle.ticket.specs.declared.Answer.{Answer}
-use Rattle.ticket.specs.Rules.{unless, answer, refusal, after, firstRefusal, settingNumber, sumProducts, parts, part, partSize, ofA, ofB, ofBias, biasBound, biasColumns, start, records, holder, ticketLength, biasedSum}
+use Rattle.ticket.specs.Rules.{unless, answer, refusal, after, firstRefusal, settingNumber, sumProducts, parts, part, partSize, ofA, ofB, ofBias, biasBound, biasColumns, start, records, holder, ticketLength, biasedSum, dividend}
 
 unfoldable pub joined : ℕ → (ℕ → List ℕ) → List ℕ
 joined zero f = []
@@ -63,10 +63,10 @@ abbrev pub sumFor : Setting → List ℤ → List ℤ → List ℤ → ℕ → �
 sumFor G A B C = biasedSum G (entryOf (G .inner) A) (entryOf (G .columns) B) (entryOf (biasColumns G) C)
 
 unfoldable pub quotientOf : Setting → List ℤ → List ℤ → List ℤ → ℕ → ℕ → ℤ
-quotientOf G A B C i j = floorDivision (sumFor G A B C i j) (G .scale)
+quotientOf G A B C i j = floorDivision (dividend G (sumFor G A B C i j)) (G .scale)
 
 unfoldable pub remainderOf : Setting → List ℤ → List ℤ → List ℤ → ℕ → ℕ → ℤ
-remainderOf G A B C i j = sumFor G A B C i j -ℤ pos (G .scale) *ℤ quotientOf G A B C i j
+remainderOf G A B C i j = dividend G (sumFor G A B C i j) -ℤ pos (G .scale) *ℤ quotientOf G A B C i j
 
 unfoldable pub integersOf : Setting → List ℤ → List ℤ → List ℤ → List (ℕ → ℕ → ℤ)
 integersOf G A B C =

@@ -8,12 +8,13 @@ use crate::{least_residue, Answer, BiasSetting, Setting, P};
 
 /// The answer to a setting, the bytes of a ticket and a list, by the order "1,
 /// 2, 3, 4; then record after record, each by 5, 6 and its own range; then 10,
-/// 11, 12".
+/// 11, 12", with 19 "after 2".
 pub fn challenge_check(setting: &Setting, ticket: &[u8], list: &[u32]) -> Answer {
     decide(&Terms::from(setting), ticket, list).unwrap_or_else(Answer::from)
 }
 
-/// The same for a bias ticket, with 17 "after 2" and 18 "where 7 would stand".
+/// The same for a bias ticket, with 17 "after 2", 19 "after 2 and 17" and 18
+/// "where 7 would stand".
 pub fn bias_challenge_check(setting: &BiasSetting, ticket: &[u8], list: &[u32]) -> Answer {
     decide(&Terms::from(setting), ticket, list).unwrap_or_else(Answer::from)
 }
@@ -42,7 +43,8 @@ pub(crate) fn read_list(setting: &Setting, list: &[u32]) -> Result<Vec<Vec<i128>
 
 /// "For vector t, X: u = B·X mod p is computed; then for each row i, c = sum
 /// over j of (αq + r)·X(j) mod p and the row of A times u mod p. Unequal:
-/// caught, at the first t and, within it, the first row".
+/// caught, at the first t and, within it, the first row". The check "uses
+/// αq + r - o for αq + r, and its products stay the same."
 pub(crate) fn challenge(terms: &Terms, ticket: &Ticket, vectors: &[Vec<i128>]) -> Answer {
     vectors
         .iter()
@@ -114,3 +116,6 @@ mod tests;
 
 #[cfg(test)]
 mod bias_tests;
+
+#[cfg(test)]
+mod rounding_tests;

@@ -8,12 +8,13 @@ use crate::{Answer, BiasSetting, Setting};
 
 /// The answer to a setting and the bytes of a ticket, by the order "1, 2, 3, 4;
 /// then record after record, each by 5, 6 and its own range; then 10, 11, 12
-/// (16 in the full check, which takes no list)".
+/// (16 in the full check, which takes no list)", with 19 "after 2".
 pub fn full_check(setting: &Setting, ticket: &[u8]) -> Answer {
     decide(&Terms::from(setting), ticket).unwrap_or_else(Answer::from)
 }
 
-/// The same for a bias ticket, with 17 "after 2" and 18 "where 7 would stand".
+/// The same for a bias ticket, with 17 "after 2", 19 "after 2 and 17" and 18
+/// "where 7 would stand".
 pub fn bias_full_check(setting: &BiasSetting, ticket: &[u8]) -> Answer {
     decide(&Terms::from(setting), ticket).unwrap_or_else(Answer::from)
 }
@@ -34,7 +35,8 @@ fn compare(terms: &Terms, ticket: &Ticket) -> Answer {
 }
 
 /// "The claim there is true when αq + r = S"; in a bias ticket "The claim is
-/// true when αq + r = S + c, with c the bias entry".
+/// true when αq + r = S + c, with c the bias entry". With αq + r - o for αq + r:
+/// "True and false claims are judged with o from here on."
 fn is_true(ticket: &Ticket, i: u32, j: u32) -> bool {
     let sum = exact_sum(&ticket.a, &ticket.b, i, j);
     ticket.claims.entry(i, j) == sum + ticket.bias.entry(i, j)
@@ -68,3 +70,6 @@ mod tests;
 
 #[cfg(test)]
 mod bias_tests;
+
+#[cfg(test)]
+mod rounding_tests;

@@ -2,10 +2,11 @@
 //! arithmetic modulo p here at the root, the setting, the reading of a ticket,
 //! the challenge check, the full check, the writer and the program in a module
 //! each, and, for those who test them, the making of tickets, true and false, and
-//! what the marked examples share. Of the paper of change requests the first is
-//! followed, "Bias from the autumn model": both checks and the writer have a call
-//! for bias tickets beside the plain one, and the rules that are the same are
-//! written once.
+//! what the marked examples share. Of the paper of change requests the first two
+//! are followed. "Bias from the autumn model": both checks and the writer have a
+//! call for bias tickets beside the plain one, and the rules that are the same
+//! are written once. "Rounding to the nearest": the setting has a rounding number
+//! o, and every call goes by it.
 //!
 //! Everything is exact integer arithmetic in `i128`. Every residue goes through
 //! one definition of the least residue. Every function takes every input,

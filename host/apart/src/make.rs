@@ -16,8 +16,8 @@ pub struct Parts {
 }
 
 impl Parts {
-    /// The parts of the ticket whose claims are true: "αq + r = S; with r in
-    /// range this makes q the floor of S over α".
+    /// The parts of the ticket whose claims are true: "the quotient is the floor
+    /// of (S + o) over α, the remainder of that division beside it".
     ///
     /// The entries are of at most 32 bits each. A scale of 0, which every check
     /// refuses, counts as 1 here.
@@ -29,16 +29,18 @@ impl Parts {
         Parts::with_sums(setting, a, b, &sums(setting, a, b))
     }
 
-    /// The parts whose claims are true of these sums.
+    /// The parts whose claims are true of these sums, to which o is yet to be
+    /// added.
     fn with_sums(setting: &Setting, a: &[i64], b: &[i64], sums: &[i128]) -> Parts {
         let alpha = i128::from(setting.scale.max(1));
+        let o = i128::from(setting.rounding);
         Parts {
             a: a.to_vec(),
             b: b.to_vec(),
             // The divisor is positive, so Euclid's division is the one that
             // rounds down.
-            quotients: sums.iter().map(|sum| sum.div_euclid(alpha) as i64).collect(),
-            remainders: sums.iter().map(|sum| sum.rem_euclid(alpha) as i64).collect(),
+            quotients: sums.iter().map(|sum| (sum + o).div_euclid(alpha) as i64).collect(),
+            remainders: sums.iter().map(|sum| (sum + o).rem_euclid(alpha) as i64).collect(),
         }
     }
 
@@ -85,8 +87,8 @@ pub struct BiasParts {
 }
 
 impl BiasParts {
-    /// The parts of the bias ticket whose claims are true: "The claim is true
-    /// when αq + r = S + c, with c the bias entry".
+    /// The parts of the bias ticket whose claims are true: to S and o "a bias is
+    /// added too where there is one".
     ///
     /// The entries are of at most 32 bits each. A scale of 0 counts as 1 here.
     ///

@@ -17,7 +17,7 @@ pub const TICKET: &str = "ticket.rec";
 pub const CHALLENGE: &str = "challenge.rec";
 
 /// The bytes of a setting file.
-const SETTING_LENGTH: usize = 16;
+const SETTING_LENGTH: usize = 20;
 
 /// The bytes of a number of a list.
 const NUMBER: usize = 4;
@@ -52,9 +52,9 @@ pub fn line(answer: &Answer) -> String {
 }
 
 /// The order is the challenge check's, "1, 2, 3, 4; then record after record,
-/// each by 5, 6 and its own range; then 10, 11, 12". The length of the setting
-/// file stands with 1 at its begin, that of the challenge file with 10, "in its
-/// turn".
+/// each by 5, 6 and its own range; then 10, 11, 12", with 19 "after 2". The
+/// length of the setting file stands with 1 at its begin, that of the challenge
+/// file with 10, "in its turn".
 fn decide(files: &Files) -> Result<Answer, Refusal> {
     // "A missing file counts as empty".
     let [setting, ticket, list] = [files.setting, files.ticket, files.challenge].map(Option::unwrap_or_default);
@@ -68,10 +68,11 @@ fn decide(files: &Files) -> Result<Answer, Refusal> {
     Ok(challenge(&terms, &ticket, &vectors))
 }
 
-/// "setting.rec (16 bytes: ℓ, m, n, s one byte each, then α, T, v four bytes
-/// each)"; "a setting file of another length is 1".
+/// "ℓ, m, n, s one byte each, then α, T, v four bytes each"; "The setting record
+/// grows to 20 bytes, o in the last four; a file of 16 is now 1", as "a setting
+/// file of another length is 1".
 fn read_setting(bytes: &[u8]) -> Result<Setting, Refusal> {
-    let &[rows, inner, columns, vectors, a0, a1, a2, a3, t0, t1, t2, t3, v0, v1, v2, v3] = bytes else {
+    let &[rows, inner, columns, vectors, a0, a1, a2, a3, t0, t1, t2, t3, v0, v1, v2, v3, o0, o1, o2, o3] = bytes else {
         return Err(Refusal { number: 1, place: 0 });
     };
     Ok(Setting {
@@ -82,6 +83,7 @@ fn read_setting(bytes: &[u8]) -> Result<Setting, Refusal> {
         scale: u32::from_le_bytes([a0, a1, a2, a3]),
         bound: u32::from_le_bytes([t0, t1, t2, t3]),
         width: u32::from_le_bytes([v0, v1, v2, v3]),
+        rounding: u32::from_le_bytes([o0, o1, o2, o3]),
     })
 }
 
@@ -98,12 +100,12 @@ fn read_challenge(setting: &Setting, bytes: &[u8]) -> Result<Vec<u32>, Refusal> 
 
 /// The bytes of a setting file, if each size is within its byte.
 pub fn setting_file(setting: &Setting) -> Option<[u8; SETTING_LENGTH]> {
-    let [l, m, n, s, alpha, t, v] = setting.numbers();
+    let [l, m, n, s, alpha, t, v, o] = setting.numbers();
     let mut bytes = [0; SETTING_LENGTH];
     for (byte, size) in bytes.iter_mut().zip([l, m, n, s]) {
         *byte = u8::try_from(size).ok()?;
     }
-    for (place, number) in [(4, alpha), (8, t), (12, v)] {
+    for (place, number) in [(4, alpha), (8, t), (12, v), (16, o)] {
         bytes[place..place + NUMBER].copy_from_slice(&number.to_le_bytes());
     }
     Some(bytes)

@@ -6,7 +6,7 @@ use std::ops::RangeInclusive;
 use crate::answer::Refusal;
 use crate::P;
 
-/// The seven numbers of a setting. Any value may stand in any of them; whether
+/// The eight numbers of a setting. Any value may stand in any of them; whether
 /// they are within limits and fit is for the check to say.
 #[derive(Clone, Copy, Debug, PartialEq, Eq)]
 pub struct Setting {
@@ -24,12 +24,14 @@ pub struct Setting {
     pub bound: u32,
     /// Quotient width, v.
     pub width: u32,
+    /// Rounding number, o: "The setting gets a rounding number o".
+    pub rounding: u32,
 }
 
-impl From<[u32; 7]> for Setting {
+impl From<[u32; 8]> for Setting {
     /// The setting of these numbers, in the order of the fields: ℓ, m, n, s, α,
-    /// T, v.
-    fn from([rows, inner, columns, vectors, scale, bound, width]: [u32; 7]) -> Setting {
+    /// T, v, o.
+    fn from([rows, inner, columns, vectors, scale, bound, width, rounding]: [u32; 8]) -> Setting {
         Setting {
             rows,
             inner,
@@ -38,13 +40,22 @@ impl From<[u32; 7]> for Setting {
             scale,
             bound,
             width,
+            rounding,
         }
     }
 }
 
+impl From<[u32; 7]> for Setting {
+    /// The setting of these numbers, ℓ, m, n, s, α, T, v, and o = 0: "with o = 0
+    /// the calls' former answers return".
+    fn from([l, m, n, s, alpha, t, v]: [u32; 7]) -> Setting {
+        Setting::from([l, m, n, s, alpha, t, v, 0])
+    }
+}
+
 impl Setting {
-    /// The seven numbers, in the order of the fields.
-    pub fn numbers(&self) -> [u32; 7] {
+    /// The eight numbers, in the order of the fields.
+    pub fn numbers(&self) -> [u32; 8] {
         [
             self.rows,
             self.inner,
@@ -53,6 +64,7 @@ impl Setting {
             self.scale,
             self.bound,
             self.width,
+            self.rounding,
         ]
     }
 
@@ -88,25 +100,25 @@ pub struct BiasSetting {
     pub bias_bound: u32,
 }
 
-impl From<[u32; 8]> for BiasSetting {
-    /// The setting of these numbers: ℓ, m, n, s, α, T, v, W.
-    fn from([rows, inner, columns, vectors, scale, bound, width, bias_bound]: [u32; 8]) -> BiasSetting {
+impl From<[u32; 9]> for BiasSetting {
+    /// The setting of these numbers: ℓ, m, n, s, α, T, v, o, W.
+    fn from([setting @ .., bias_bound]: [u32; 9]) -> BiasSetting {
         BiasSetting {
-            setting: Setting::from([rows, inner, columns, vectors, scale, bound, width]),
+            setting: Setting::from(setting),
             bias_bound,
         }
     }
 }
 
 impl BiasSetting {
-    /// The eight numbers, W last.
-    pub fn numbers(&self) -> [u32; 8] {
-        let [l, m, n, s, alpha, t, v] = self.setting.numbers();
-        [l, m, n, s, alpha, t, v, self.bias_bound]
+    /// The nine numbers, W last.
+    pub fn numbers(&self) -> [u32; 9] {
+        let [l, m, n, s, alpha, t, v, o] = self.setting.numbers();
+        [l, m, n, s, alpha, t, v, o, self.bias_bound]
     }
 }
 
-/// What a call goes by: the seven numbers, and W if the call is one for bias
+/// What a call goes by: the eight numbers, and W if the call is one for bias
 /// tickets: "both checks and the writer get a call of its own for it". A plain
 /// call has no W.
 #[derive(Clone, Copy, Debug, PartialEq, Eq)]
@@ -135,7 +147,7 @@ impl From<&BiasSetting> for Terms {
 
 impl Terms {
     /// The tests 1, 2 and 3, in this order, each with place 0; "W beyond 2^30 as
-    /// 17, after 2".
+    /// 17, after 2", and "o not below α as 19, after 2 and 17".
     pub(crate) fn test(&self) -> Result<(), Refusal> {
         let number = if any_outside(&self.setting.sizes()) {
             1
@@ -143,6 +155,8 @@ impl Terms {
             2
         } else if self.greatest_bias() > GREATEST_BOUND {
             17
+        } else if self.setting.rounding >= self.setting.scale {
+            19
         } else if !self.fits() {
             3
         } else {
@@ -153,15 +167,17 @@ impl Terms {
     }
 
     /// "It fits when m·T² + α - 1 ≤ 2^(v-1)·α and 2^v·α < p." With a bias bound
-    /// W it "fits when m·T² + W + α - 1 ≤ 2^(v-1)·α and 2^v·α < p." Asked only
-    /// within the limits.
+    /// W it "fits when m·T² + W + α - 1 ≤ 2^(v-1)·α and 2^v·α < p." Either way it
+    /// "fits when the left side with o added still fits." Asked only within the
+    /// limits.
     fn fits(&self) -> bool {
         let m = i128::from(self.setting.inner);
         let alpha = i128::from(self.setting.scale);
         let t = i128::from(self.setting.bound);
         let w = self.greatest_bias();
+        let o = i128::from(self.setting.rounding);
         let half = self.setting.half_of_quotients();
-        m * t * t + w + alpha - 1 <= half * alpha && 2 * half * alpha < P
+        m * t * t + w + o + alpha - 1 <= half * alpha && 2 * half * alpha < P
     }
 
     /// W, or 0 in a plain call, which adds nothing.

@@ -151,12 +151,12 @@ pub(crate) struct Ticket {
     pub(crate) b: Matrix,
     /// What is added to each sum.
     pub(crate) bias: Matrix,
-    /// αq + r in every place.
+    /// αq + r - o in every place.
     pub(crate) claims: Matrix,
 }
 
 /// Reads a ticket by the tests 4 to 9 and 18, under terms that have passed 1 to
-/// 3 and 17.
+/// 3, 17 and 19.
 pub(crate) fn read(terms: &Terms, bytes: &[u8]) -> Result<Ticket, Refusal> {
     if bytes.len() as u128 != length(terms) {
         return Err(Refusal { number: 4, place: 0 });
@@ -172,10 +172,11 @@ pub(crate) fn read(terms: &Terms, bytes: &[u8]) -> Result<Ticket, Refusal> {
         Matrix::new(columns, rest.by_ref().take(rows as usize * columns).collect())
     });
     let alpha = i128::from(terms.setting.scale);
+    let o = i128::from(terms.setting.rounding);
     let claims = quotients
         .entries()
         .zip(remainders.entries())
-        .map(|(q, r)| alpha * q + r)
+        .map(|(q, r)| alpha * q + r - o)
         .collect();
     Ok(Ticket {
         a,

@@ -22,8 +22,7 @@ pub fn write_ticket(setting: &Setting, a: &[i32], b: &[i32], output: &mut [u8]) 
     write(&Terms::from(setting), &Operands { a, b, bias: &[] }, output)
 }
 
-/// The same for a bias ticket, in which "The claim is true when αq + r = S + c,
-/// with c the bias entry".
+/// The same for a bias ticket, where c, the bias entry, is added to S.
 pub fn write_bias_ticket(setting: &BiasSetting, a: &[i32], b: &[i32], bias: &[i32], output: &mut [u8]) -> Answer {
     write(&Terms::from(setting), &Operands { a, b, bias }, output)
 }
@@ -50,7 +49,8 @@ fn write(terms: &Terms, operands: &Operands, output: &mut [u8]) -> Answer {
 }
 
 /// "Writer: 1, 2, 3, 13, 14, 15; within 13 A precedes B, and the first index
-/// decides 14." For bias tickets 17 stands "after 2" and 18 is "following 14".
+/// decides 14." 19 stands "after 2"; for bias tickets 17 stands between these
+/// two, and 18 is "following 14".
 fn test(terms: &Terms, operands: &Operands, output_length: usize) -> Result<(), Refusal> {
     terms.test()?;
     test_lengths(terms, operands)?;
@@ -119,10 +119,9 @@ fn claims(terms: &Terms, operands: &Operands) -> Vec<(i64, i64)> {
     let left = Matrix::new(setting.inner as usize, widened(operands.a));
     let right = Matrix::new(setting.columns as usize, widened(operands.b));
     let bias = added(terms, widened(operands.bias));
-    let alpha = i128::from(setting.scale);
     Part::Quotients
         .places(terms)
-        .map(|(i, j)| claim(exact_sum(&left, &right, i, j) + bias.entry(i, j), alpha))
+        .map(|(i, j)| claim(setting, exact_sum(&left, &right, i, j) + bias.entry(i, j)))
         .map(|(quotient, remainder)| (quotient as i64, remainder as i64))
         .collect()
 }
@@ -132,12 +131,14 @@ fn widened<T: From<i32>>(entries: &[i32]) -> Vec<T> {
     entries.iter().copied().map(T::from).collect()
 }
 
-/// The quotient and the remainder of a true claim: "The claim there is true when
-/// αq + r = S; with r in range this makes q the floor of S over α." With a bias
-/// the sum is S + c.
-fn claim(sum: i128, alpha: i128) -> (i128, i128) {
-    let quotient = floor(sum, alpha);
-    (quotient, sum - alpha * quotient)
+/// The quotient and the remainder of a true claim: "the quotient is the floor of
+/// (S + o) over α, the remainder of that division beside it; a bias is added too
+/// where there is one." With a bias the sum is S + c.
+fn claim(setting: &Setting, sum: i128) -> (i128, i128) {
+    let alpha = i128::from(setting.scale);
+    let rounded = sum + i128::from(setting.rounding);
+    let quotient = floor(rounded, alpha);
+    (quotient, rounded - alpha * quotient)
 }
 
 /// The floor of `sum` over `alpha`, which is positive: the largest whole number
@@ -158,3 +159,6 @@ mod tests;
 
 #[cfg(test)]
 mod bias_tests;
+
+#[cfg(test)]
+mod rounding_tests;

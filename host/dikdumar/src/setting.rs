@@ -9,7 +9,7 @@
 /// ```
 /// use dikdumar::Setting;
 ///
-/// let setting = Setting::from([2, 2, 2, 1, 10, 8, 5]);
+/// let setting = Setting::from([2, 2, 2, 1, 10, 8, 5, 0]);
 /// assert_eq!((setting.scale, setting.bound, setting.width), (10, 8, 5));
 ///
 /// // With a width of 4 bits it does not fit.
@@ -33,12 +33,14 @@ pub struct Setting {
     pub bound: u32,
     /// Width of the quotients in bits, v: 1 to 30.
     pub width: u32,
+    /// Rounding number, o, which is added to a sum before it is divided: 0 to α - 1.
+    pub rounding: u32,
 }
 
-impl From<[u32; 7]> for Setting {
+impl From<[u32; 8]> for Setting {
     /// The setting of these numbers, in the order of the fields: ℓ, m, n, s, α,
-    /// T, v.
-    fn from([rows, inner, columns, vectors, scale, bound, width]: [u32; 7]) -> Setting {
+    /// T, v, o.
+    fn from([rows, inner, columns, vectors, scale, bound, width, rounding]: [u32; 8]) -> Setting {
         Setting {
             rows,
             inner,
@@ -47,6 +49,7 @@ impl From<[u32; 7]> for Setting {
             scale,
             bound,
             width,
+            rounding,
         }
     }
 }
@@ -60,8 +63,8 @@ impl From<[u32; 7]> for Setting {
 /// ```
 /// use dikdumar::{BiasSetting, Setting};
 ///
-/// let setting = BiasSetting::from([2, 2, 2, 1, 10, 8, 5, 23]);
-/// assert_eq!(setting.setting, Setting::from([2, 2, 2, 1, 10, 8, 5]));
+/// let setting = BiasSetting::from([2, 2, 2, 1, 10, 8, 5, 0, 23]);
+/// assert_eq!(setting.setting, Setting::from([2, 2, 2, 1, 10, 8, 5, 0]));
 /// assert_eq!(setting.bias_bound, 23);
 ///
 /// // 2 · 8² + 23 + 9 is 16 · 10. A larger bound of the bias does not fit, and one
@@ -81,12 +84,12 @@ pub struct BiasSetting {
     pub bias_bound: u32,
 }
 
-impl From<[u32; 8]> for BiasSetting {
+impl From<[u32; 9]> for BiasSetting {
     /// The setting of these numbers, in the order of the fields: ℓ, m, n, s, α,
-    /// T, v, W.
-    fn from([rows, inner, columns, vectors, scale, bound, width, bias_bound]: [u32; 8]) -> BiasSetting {
+    /// T, v, o, W.
+    fn from([rows, inner, columns, vectors, scale, bound, width, rounding, bias_bound]: [u32; 9]) -> BiasSetting {
         BiasSetting {
-            setting: Setting::from([rows, inner, columns, vectors, scale, bound, width]),
+            setting: Setting::from([rows, inner, columns, vectors, scale, bound, width, rounding]),
             bias_bound,
         }
     }

@@ -31,8 +31,8 @@ use Rattle.algebra.specs.Laws.Fills.{lineAt, part-of, part-long}
 use Rattle.algebra.specs.Laws.Positions.{row-inside}
 use Rattle.ticket.specs.declared.setting.Setting.{Setting}
 use Rattle.ticket.specs.declared.Answer.{Answer}
-use Rattle.ticket.specs.Rules.{unless, answer, lift, recordBytes, biasColumns}
-use Rattle.ticket.specs.Laws.Limits.{clamped}
+use Rattle.ticket.specs.Rules.{unless, answer, recordBytes, biasColumns}
+use Rattle.ticket.specs.Laws.Limits.{lift}
 use Rattle.ticket.specs.Laws.Runs.{Steps, step-answer, RunTo}
 use Rattle.challenge.specs.Laws.Products.{rowsTimes, dot-small, dotWith, offsetOf, offset-small, ResidueVector, RecordsReady, DotReady, NarrowFactors}
 
@@ -57,7 +57,7 @@ biasVector G x = take (biasColumns G) x
 
 abbrev pub rowAgrees : Setting → List ℕ → List ℕ → List ℕ → List ℕ → List ℕ → ℕ → Bool
 rowAgrees G a w d x u i =
-    sidesEqual (offsetOf (lift (clamped G)) x) (offsetOf (G .bound) u + rowsTimes d (biasVector G x) i)
+    sidesEqual (offsetOf (lift G) x) (offsetOf (G .bound) u + rowsTimes d (biasVector G x) i)
     (lineAt a (length u) i) (lineAt w (length x) i) x u
 
 abbrev pub rowCost : Setting → List ℕ → List ℕ → ℕ
@@ -75,7 +75,7 @@ rowSteps G a w d x u τ products =
     }
 
 pub record VectorRowsReady (G : Setting) (a w d x u : List ℕ) (shift products : ℕ) : Type 0 where
-  pub lift-is : shift ≡ lift (clamped G)
+  pub lift-is : shift ≡ lift G
   pub lift-below : shift ≤ modulus
   pub bound-below : G .bound ≤ modulus
   pub few : products + G .rows * rowCost G x u < 2 ^ 32

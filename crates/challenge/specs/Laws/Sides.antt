@@ -2,7 +2,6 @@
 --
 --   RoomFor G y u      y and u have as many numbers as a vector and its product with B
 --   DecodedTo G t a w s  a holds the entries of A with the bound added, w what the claims put for their sums, lifted; s is the lift
---   same-setting       a ticket that passes has a setting within its limits
 --   room-within, room-front, room-rest   a room whose first n numbers were filled to be a, and then the others to be w, has at least n;
 --                      its first n are a, and the others are w
 --   decoded-by         what the decoding calls make of a ticket that passes
@@ -23,10 +22,10 @@ use Rattle.algebra.specs.Rules.{sumℤ}
 use Rattle.algebra.specs.Laws.IntegerSums.{sumℤ-none, sumℤ-zero, residue-dot}
 use Rattle.algebra.specs.Laws.Fills.{Filled, lineAt, part-of}
 use Rattle.ticket.specs.declared.setting.Setting.{Setting}
-use Rattle.ticket.specs.Rules.{lift, halfRange, ofA, ofBias, ofQuotients, ofRemainders, biasColumns, entryA, entryBias, claim, hasBias}
+use Rattle.ticket.specs.Rules.{halfRange, ofA, ofBias, ofQuotients, ofRemainders, biasColumns, entryA, entryBias, claim, hasBias}
 use Rattle.ticket.specs.Laws.Decodes.{values-bias, ShiftedList, LiftedList, ShiftedEntries, LiftedClaims, entries-shifted, claims-lifted}
 use Rattle.ticket.specs.Laws.Layout.{partBytes}
-use Rattle.ticket.specs.Laws.Limits.{with-bias, without-bias, bias-columns-most, clamped, clamped-same, lift-small}
+use Rattle.ticket.specs.Laws.Limits.{with-bias, without-bias, bias-columns-most, clamped, lift, lift-made}
 use Rattle.ticket.specs.Laws.Differences.{no-bias-entry}
 use Rattle.ticket.specs.Laws.First.{true-or-false}
 use Rattle.ticket.specs.Laws.Passes.{Passed}
@@ -41,7 +40,8 @@ pub record RoomFor (G : Setting) (y u : List ℕ) : Type 0 where
 pub record DecodedTo (G : Setting) (t a w : List ℕ) (shift : ℕ) : Type 0 where
   pub entries : ShiftedEntries G t a
   pub claims : LiftedClaims G t w
-  pub lift-is : shift ≡ lift (clamped G)
+  pub lift-is : shift ≡ lift G
+  pub lift-below : shift ≤ modulus
 
 module _ (room : List ℕ) (n m : ℕ) {k : ℕ} {f : ℕ → ℕ} {a : List ℕ} (fits : n + m ≤ length room) (first : Filled 0 (take n room) k f a) where
   -- the room when its first n numbers are filled
@@ -76,33 +76,31 @@ module _ (room : List ℕ) (n m : ℕ) {k : ℕ} {f : ℕ → ℕ} {a : List ℕ
     room-rest = rw (joined, drop-at a w n long) (take-all (length (a ++ w) - n) w (omega (arith, length-append a w, long)))
 
 module _ {G : Setting} {t : List ℕ} (passed : Passed G t) where
-  pub same-setting : clamped G ≡ G
-  same-setting = clamped-same (passed .counts .sizes) (passed .numbers)
-
   pub decoded-by : (room : List ℕ) {a w b q r : List ℕ} {half shift : ℕ} → let size = G .rows * G .inner in let once = a ++ drop size room in
       size + G .rows * G .columns ≤ length room
       → b ≡ partBytes (clamped G) t ofA → q ≡ partBytes (clamped G) t ofQuotients → r ≡ partBytes (clamped G) t ofRemainders
       → half ≡ halfRange (clamped G) → ShiftedList b (G .bound) (take size room) a
       → LiftedList q r half (G .scale) (take (length once - size) (drop size once)) w
-      → shift ≡ half * clamped G .scale → DecodedTo G t a w shift
+      → shift ≡ half * clamped G .scale + G .rounding → DecodedTo G t a w shift
   decoded-by room fits b-is q-is r-is half-is entries claims shift-is =
+      let made = lift-made (passed .counts .sizes) (passed .numbers) (passed .fitted) half-is shift-is in
       record {
         entries = entries-shifted passed b-is (omega (arith, length-take-le (G .rows * G .inner) room (omega arith))) entries;
         claims = claims-lifted passed q-is r-is half-is (rest-fits room _ _ fits entries) claims;
-        lift-is = shift-is ∙ ap (λ n. n * clamped G .scale) half-is;
+        lift-is = made .0;
+        lift-below = omega (arith, made .1);
       }
 
   module _ {a w d : List ℕ} {shift : ℕ} (decoded : DecodedTo G t a w shift) (d-is : d ≡ partBytes (clamped G) t ofBias)
       (x : List ℕ) (τ : ℕ) (y u : List ℕ) (room : RoomFor G y u)
       (vector : (j : ℕ) → j < G .columns → getD y j 0 ≡ challengeAt G x τ j) (product : (k : ℕ) → k < G .inner → getD u k 0 ≡ productB G t x τ k)
       {i : ℕ} (row : i < G .rows) where
-    claims-by : dotWith (offsetOf (lift (clamped G)) y) (lineAt w (length y) i) y ≡ claimSide G t x τ i
+    claims-by : dotWith (offsetOf (lift G) y) (lineAt w (length y) i) y ≡ claimSide G t x τ i
     unfolding claimSide
     claims-by =
-        rw same-setting
-        (side-made (lift G) (G .columns) (claim G t i) (challengeAt G x τ) (lineAt w (length y) i) y
-        (omega (arith, lift-small (passed .numbers) (passed .fitted))) (room .columns) vector
-        (λ j l. rw (room .columns, part-of w (i * G .columns) (G .columns) j 0 l) (decoded .claims .each i j row l)))
+        side-made (lift G) (G .columns) (claim G t i) (challengeAt G x τ) (lineAt w (length y) i) y
+        (rw (← decoded .lift-is) (decoded .lift-below)) (room .columns) vector
+        (λ j l. rw (room .columns, part-of w (i * G .columns) (G .columns) j 0 l) (decoded .claims .each i j row l))
 
     bias-long : length (biasVector G y) ≡ biasColumns G
     bias-long = length-take-le (biasColumns G) y (omega (arith, room .columns, bias-columns-most G))

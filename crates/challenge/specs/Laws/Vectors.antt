@@ -29,7 +29,7 @@ use Rattle.ticket.specs.declared.Answer.{Answer}
 use Rattle.ticket.specs.Rules.{mostRows, mostInner, mostColumns, ofB, ofBias, answer, entryB}
 use Rattle.ticket.specs.Laws.Decodes.{values-B, values-bias}
 use Rattle.ticket.specs.Laws.Layout.{partBytes}
-use Rattle.ticket.specs.Laws.Limits.{bias-columns-most, clamped, lift-small}
+use Rattle.ticket.specs.Laws.Limits.{bias-columns-most, clamped}
 use Rattle.ticket.specs.Laws.Passes.{Passed}
 use Rattle.ticket.specs.Laws.Runs.{Steps, steps-answer, step-answer, RunTo}
 use Rattle.ticket.specs.Laws.Scans.{scan-cong, scan-by-first}
@@ -37,7 +37,7 @@ use Rattle.challenge.specs.Rules.{challengeAt, balanced, productB, first
 use Rattle.challenge.specs.Laws.Lists.{Entries}
 use Rattle.challenge.specs.Laws.Products.{ResidueVector, ProductReady, rowsTimes, dotOf}
 use Rattle.challenge.specs.Laws.Rows.{VectorRowsReady, rowSteps, line-inside}
-use Rattle.challenge.specs.Laws.Sides.{RoomFor, DecodedTo, same-setting, agrees-balanced}
+use Rattle.challenge.specs.Laws.Sides.{RoomFor, DecodedTo, agrees-balanced}
 
 pub record ListReady (G : Setting) (t x : List ℕ) : Type 0 where
   pub passed : Passed G t
@@ -149,7 +149,7 @@ module _ {G : Setting} {t x : List ℕ} {τ products : ℕ} (ready : VectorReady
               let passed = ready .list .passed in
               record {
                 lift-is = decoded .lift-is;
-                lift-below = rw (decoded .lift-is, same-setting passed) (omega (arith, lift-small (passed .numbers) (passed .fitted)));
+                lift-below = decoded .lift-below;
                 bound-below = omega (arith, passed .numbers .bound, modulus-above);
                 few = rw (rooms .columns, rooms .inner) (omega (arith, ready .few));
                 vector-x = rw y-is vector;

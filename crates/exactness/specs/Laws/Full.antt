@@ -5,7 +5,8 @@
 --   FirstUntrue G t i j     the tests before pass, and the claim in row i, column j is the first, row by row, that is untrue
 --   AllTrue G t             the tests before pass, and every claim is true
 --   FullAnswered G t a      the condition of the answer a, no earlier test failing
---   FloorClaim G t i j      the quotient is the exact sum over the scale, rounded down, and the remainder is what that leaves
+--   FloorClaim G t i j      the quotient is what is divided for the exact sum, over the scale, rounded down, and the remainder is what that
+--                           leaves (O2)
 --   holds-exactly           the test of a claim holds exactly when the claim is true
 --   full-answer-of          where the condition of the answer a holds, a is the answer
 --   full-answered           for some a it holds
@@ -30,11 +31,11 @@ use Rattle.algebra.specs.Laws.FloorDivision.{floor-unique}
 use Rattle.algebra.specs.Laws.Positions.{by-rows}
 use Rattle.ticket.specs.declared.setting.Setting.{Setting}
 use Rattle.ticket.specs.declared.Answer.{Answer}
-use Rattle.ticket.specs.Rules.{answer, refusal, reading, Passes, quotient, remainder, claim, due, Untrue, FalseIn}
+use Rattle.ticket.specs.Rules.{answer, refusal, reading, Passes, quotient, remainder, claim, due, dividend, Untrue, FalseIn}
 use Rattle.ticket.specs.Laws.First.{holds-or-first}
 use Rattle.ticket.specs.Laws.Scans.{scan-none, scan-is, after-passed, after-refused}
 use Rattle.ticket.specs.Laws.Passes.{passed-of}
-use Rattle.ticket.specs.Laws.Differences.{claim-is, small-remainder, claims-true}
+use Rattle.ticket.specs.Laws.Differences.{claim-exactly, small-remainder, claims-true}
 use Rattle.ticket.specs.Laws.Refusals.{Refused, passed-reading, passed-or-refused, refused-reading, refused-number, ReadingRow, refused-in-table}
 use Rattle.full.specs.Rules.{holds, untrue, fullAccepted, fullVerdict, fullCheck, FullAccepted}
 use Rattle.full.specs.Laws.Same.{same-equal, same-other, equal-of-same}
@@ -63,8 +64,8 @@ pub data FullAnswered (G : Setting) (t : List ℕ) : Answer → Type 0 where
   all-true : AllTrue G t → FullAnswered G t (fullAccepted G)
 
 pub record FloorClaim (G : Setting) (t : List ℕ) (i j : ℕ) : Type 0 where
-  pub quotient-is : quotient G t i j ≡ floorDivision (due G t i j) (G .scale)
-  pub remainder-is : remainder G t i j ≡ due G t i j -ℤ pos (G .scale) *ℤ quotient G t i j
+  pub quotient-is : quotient G t i j ≡ floorDivision (dividend G (due G t i j)) (G .scale)
+  pub remainder-is : remainder G t i j ≡ dividend G (due G t i j) -ℤ pos (G .scale) *ℤ quotient G t i j
 
 module _ (G : Setting) (t : List ℕ) where
   pub holds-exactly : (i j : ℕ) → j < G .columns → (holds G t (i * G .columns + j) ≡ true) ↔ (claim G t i j ≡ due G t i j)
@@ -170,16 +171,19 @@ module _ (G : Setting) (t : List ℕ) where
     abbrev scaled : ℤ
     scaled = pos (G .scale) *ℤ quotient G t i j
 
+    abbrev divided : ℤ
+    divided = dividend G (due G t i j)
+
     floor-claim : (r : ℕ) × (r < G .scale) × (remainder G t i j ≡ pos r) → claim G t i j ≡ due G t i j → FloorClaim G t i j
     floor-claim left e =
-        let sum : scaled +ℤ remainder G t i j ≡ due G t i j = sym (claim-is G t i j) ∙ e in
+        let sum : scaled +ℤ remainder G t i j ≡ divided = claim-exactly G t i j (due G t i j) .0 e in
         record {
-          quotient-is = floor-unique (due G t i j) (quotient G t i j) (G .scale) (left .0) (left .1) (rw (left .2) at sum);
+          quotient-is = floor-unique divided (quotient G t i j) (G .scale) (left .0) (left .1) (rw (left .2) at sum);
           remainder-is = sym (+ℤ-negℤ-cancel _ scaled) ∙ ap (λ z. z -ℤ scaled) (+ℤ-comm (remainder G t i j) scaled ∙ sum);
         }
 
     claim-of-floor : FloorClaim G t i j → claim G t i j ≡ due G t i j
-    claim-of-floor f = claim-is G t i j ∙ rw (f .remainder-is) (+ℤ-comm scaled _ ∙ -ℤ-+ℤ-cancel (due G t i j) scaled)
+    claim-of-floor f = claim-exactly G t i j (due G t i j) .1 (rw (f .remainder-is) (+ℤ-comm scaled _ ∙ -ℤ-+ℤ-cancel divided scaled))
 
   pub full-accepted-exactly : FullAccepted G t ↔ (Passes G t × ((i j : ℕ) → i < G .rows → j < G .columns → FloorClaim G t i j))
   full-accepted-exactly = (

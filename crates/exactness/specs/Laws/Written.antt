@@ -27,11 +27,11 @@ use Rattle.residue.specs.Laws.Integers.{positive, negative, equal-of-parts, par
 use Rattle.residue.specs.Laws.Modulus.{modulus-above, modulus-positive}
 use Rattle.residue.specs.Laws.Residues.{residue-below, residue-sum, residue-of-residue, residue-close, entry-of-residue}
 use Rattle.algebra.specs.Laws.FloorDivision.{floor-left, floor-unique}
-use Rattle.algebra.specs.Laws.IntegerSums.{size-difference}
+use Rattle.algebra.specs.Laws.IntegerSums.{size-sum, size-difference}
 use Rattle.algebra.specs.Laws.MatrixProducts.{matrixProduct-cong}
 use Rattle.ticket.specs.declared.setting.Setting.{Setting}
-use Rattle.ticket.specs.Rules.{reach, halfRange, parts, part, records, recordBytes, ofA, ofB, ofBias, ofQuotients, ofRemainders, biasBound, biasColumns, Passes, FalseIn, byteAt, valueAt, valueIn, entryA, entryB, entryBias, quotient, remainder, biasedSum, due, hasBias}
-use Rattle.ticket.specs.Laws.Differences.{claim-is, biasedSum-is, no-bias-entry, size-entryA, size-entryB, size-bias, residue-bias, size-quotient, small-remainder, residue-entryA, residue-entryB, residue-quotient, residue-remainder, claims-true}
+use Rattle.ticket.specs.Rules.{reach, halfRange, parts, part, records, recordBytes, ofA, ofB, ofBias, ofQuotients, ofRemainders, biasBound, biasColumns, Passes, FalseIn, byteAt, valueAt, valueIn, entryA, entryB, entryBias, quotient, remainder, biasedSum, dividend, due, hasBias}
+use Rattle.ticket.specs.Laws.Differences.{claim-exactly, biasedSum-is, no-bias-entry, size-entryA, size-entryB, size-bias, residue-bias, size-quotient, small-remainder, residue-entryA, residue-entryB, residue-quotient, residue-remainder, claims-true}
 use Rattle.ticket.specs.Laws.Layout.{located-at, tests-located, value-in, part-A, part-B, part-bias, part-quotients, part-remainders, range-A, range-B, range-bias, range-quotients, range-remainders, every-part}
 use Rattle.ticket.specs.Laws.Limits.{counts, with-bias, bias-there, bias-small, half-small, half-double}
 use Rattle.ticket.specs.Laws.First.{true-or-false}
@@ -87,9 +87,10 @@ module _ {G : Setting} {A B C : List ℤ} (w : Writable G A B C) where
     pub size-quotientOf : let q = quotientOf G A B C i j in (negative q ≤ positive q + halfRange G) × (positive q < halfRange G + negative q)
     unfolding quotientOf
     size-quotientOf =
-        let h = floor-left (sumFor G A B C i j) (G .scale) (omega (arith, limits w .numbers .scale)) in
-        quotient-within (G .scale) (halfRange G) (reach G) (limits w .numbers .scale .0) (limits w .fitted .sums) _
-        (quotientOf G A B C i j) (h .0) (size-sumFor w i j l m) (h .1) (h .2)
+        let S = sumFor G A B C i j in
+        let h = floor-left (dividend G S) (G .scale) (omega (arith, limits w .numbers .scale)) in
+        quotient-within (G .scale) (halfRange G) (reach G + G .rounding) (limits w .numbers .scale .0) (limits w .fitted .sums) _
+        (quotientOf G A B C i j) (h .0) (omega (arith, size-sum S (pos (G .rounding)), size-sumFor w i j l m)) (h .1) (h .2)
 
     left : (r : ℕ) × (r < G .scale) × (remainderOf G A B C i j ≡ pos r)
     left = remainder-left G A B C i j (omega (arith, limits w .numbers .scale))
@@ -198,8 +199,8 @@ module _ {G : Setting} {A B C : List ℤ} (w : Writable G A B C) where
       let i = f .1 .0 in
       let l : i < G .rows = f .1 .1 in
       f .1 .2
-      (claim-is G (ticketOf G A B C) i j ∙ rw (written-quotient i j l (f .0), written-remainder i j l (f .0)) (claim-sum G A B C i j)
-      ∙ sym (written-sum i j l (f .0)))
+      (claim-exactly G (ticketOf G A B C) i j _ .1
+      (rw (written-quotient i j l (f .0), written-remainder i j l (f .0), written-sum i j l (f .0)) (claim-sum G A B C i j)))
 
 pub written-accepted : (G : Setting) (A B C : List ℤ) (size : ℕ) → writing G A B C size .number ≡ 0
     → fullCheck G (ticketOf G A B C) ≡ fullAccepted G
@@ -220,16 +221,16 @@ module _ (G : Setting) (A B C : List ℤ) (t : List ℕ) (bytes : (k : ℕ) → 
     (same-B : (k j : ℕ) → k < G .inner → j < G .columns → entryB G t k j ≡ entryOf (G .columns) B k j)
     (same-C : (i j : ℕ) → i < G .rows → j < G .columns → entryBias G t i j ≡ entryOf (biasColumns G) C i j) where
   module _ (i j : ℕ) (l : i < G .rows) (m : j < G .columns) where
-    same-sum : pos (G .scale) *ℤ quotient G t i j +ℤ remainder G t i j ≡ sumFor G A B C i j
+    same-sum : pos (G .scale) *ℤ quotient G t i j +ℤ remainder G t i j ≡ dividend G (sumFor G A B C i j)
     same-sum =
-        sym (claim-is G t i j) ∙ claims-true G t none i j l m
-        ∙ same-sums G _ _ _ _ _ _ i j (λ k h. same-A i k l h) (λ k h. same-B k j h m) (same-C i j l m)
+        claim-exactly G t i j (sumFor G A B C i j) .0 (claims-true G t none i j l m
+        ∙ same-sums G _ _ _ _ _ _ i j (λ k h. same-A i k l h) (λ k h. same-B k j h m) (same-C i j l m))
 
     same-quotient : quotient G t i j ≡ quotientOf G A B C i j
     unfolding quotientOf
     same-quotient =
         let h = small-remainder passed i j l m in
-        floor-unique (sumFor G A B C i j) (quotient G t i j) (G .scale) (h .0) (h .1) (rw (h .2) at same-sum)
+        floor-unique (dividend G (sumFor G A B C i j)) (quotient G t i j) (G .scale) (h .0) (h .1) (rw (h .2) at same-sum)
 
     same-remainder : remainder G t i j ≡ remainderOf G A B C i j
     unfolding remainderOf

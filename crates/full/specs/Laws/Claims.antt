@@ -5,6 +5,7 @@
 --   ListsHold G t A B y   A and B hold the entries of the operands, row by row and column by column, and y the claims for the sums,
 --                       lifted
 --   lists-hold          so they do for a ticket that passes
+--   lifting-is          the lift that is added to them is the setting's, and has 31 bits
 --   sums-ready          its sums can be compared
 --   sums-verdict        and their answer is the verdict
 --   check-refused, check-passed, check-compared   the whole check, by the answer of reading
@@ -26,12 +27,12 @@ use Rattle.algebra.specs.Laws.Positions.{row-inside, by-rows}
 use Rattle.exact.specs.Laws.Matrices.{Turned, turned-at, sums-exact}
 use Rattle.ticket.specs.declared.setting.Setting.{Setting}
 use Rattle.ticket.specs.declared.Answer.{Answer}
-use Rattle.ticket.specs.Rules.{answer, scan, lift, reading, part, partSize, ofA, ofB, ofBias, ofQuotients, ofRemainders, halfRange, entryA, entryB, entryBias, claim, due}
+use Rattle.ticket.specs.Rules.{answer, scan, reading, part, partSize, ofA, ofB, ofBias, ofQuotients, ofRemainders, halfRange, entryA, entryB, entryBias, claim, due}
 use Rattle.ticket.specs.Laws.Decodes.{decodedCount, claimCount, narrowAt, liftedAt, LessList, SumClaims, claims-lifted, claims-less, entries-A, entries-B}
 use Rattle.ticket.specs.Laws.Differences.{biasedSum-is, claims-close}
 use Rattle.ticket.specs.Laws.Layout.{partBytes, parts-are}
 use Rattle.ticket.specs.Laws.Lifts.{lifted-decides}
-use Rattle.ticket.specs.Laws.Limits.{lift-small, clamped, clamped-same}
+use Rattle.ticket.specs.Laws.Limits.{lift, lift-made, lift-small, clamped, clamped-same}
 use Rattle.ticket.specs.Laws.Passes.{Passed, passed-of}
 use Rattle.ticket.specs.Laws.Runs.{steps-answer}
 use Rattle.ticket.specs.Laws.Scans.{after-passed, after-refused, scan-cong}
@@ -83,9 +84,13 @@ module _ {G : Setting} {t : List ℕ} (passed : Passed G t) where
           claimed = claims-less passed d-is (claims-lifted passed q-is r-is half-is (space .claims) claims) less;
         }
 
+  pub lifting-is : {half n : ℕ} → half ≡ halfRange (clamped G) → n ≡ half * clamped G .scale + G .rounding → (n ≡ lift G) × (n < 2 ^ 31)
+  lifting-is half-is made =
+      let is = lift-made (passed .counts .sizes) (passed .numbers) (passed .fitted) half-is made in (is .0, omega (arith, is .1, modulus-below))
+
   module _ {A B : List ℤ} {y : List ℕ} (holding : ListsHold G t A B y) where
-    pub sums-ready : {row : ℕ} → row ≡ G .columns → SumsReady G A B y row
-    sums-ready row-is = search
+    pub sums-ready : {row lifting : ℕ} → row ≡ G .columns → lifting ≡ lift G → SumsReady G A B y row lifting
+    sums-ready row-is lifting-is = search
 
     -- the test of a sum is that of its claim
     test-alike : (i j : ℕ) → i < G .rows → j < G .columns → sumSteps G A B y .holds (i * G .columns + j) ≡ holds G t (i * G .columns + j)

@@ -3,8 +3,8 @@
 --   claimedFor x y l j    number j of the sums x, with l added, is number j of the claims y, modulo 2^32
 --   lineSum A B m i j     the product of row i of A and column j of B, m numbers each, modulo 2^32
 --   sumSteps G A B y      all sums of the rows A and the columns B, one after the other, by the claims y
---   SumsReady G A B y n   these are as long as the setting needs them, and n is the length of a row of sums
---   SumRowReady G A B y n l i a   so they are for row i, l is the lift, a the answer of the rows before, and no number of the row is large
+--   SumsReady G A B y n l   these are as long as the setting needs them, n is the length of a row of sums, and l is the lift
+--   SumRowReady G A B y n l i a   so it is for row i, a is the answer of the rows before, and no number of the row is large
 --   sum-row-ready         so it is for each row, where it is so for all
 --   RowCompared G A B y i a   a is the answer of the rows up to row i where they agree, else that of all rows
 --   few-agree             no more sums than that agree with their claims
@@ -25,9 +25,9 @@ use Rattle.exact.specs.Rules.{dotProduct}
 use Rattle.exact.specs.Laws.Matrices.{RowSums}
 use Rattle.ticket.specs.declared.setting.Setting.{Setting}
 use Rattle.ticket.specs.declared.Answer.{Answer}
-use Rattle.ticket.specs.Rules.{first, answer, lift}
+use Rattle.ticket.specs.Rules.{first, answer}
 use Rattle.ticket.specs.Laws.First.{first-within}
-use Rattle.ticket.specs.Laws.Limits.{Within, counts}
+use Rattle.ticket.specs.Laws.Limits.{Within, counts, lift}
 use Rattle.ticket.specs.Laws.Runs.{Steps, RunTo, RunPast, run-several, run-breaks}
 
 abbrev pub claimedFor : List ℕ → List ℕ → ℕ → ℕ → Bool
@@ -47,16 +47,16 @@ sumSteps G A B claims =
       passed = λ c. refl;
     }
 
-pub record SumsReady (G : Setting) (A B : List ℤ) (claims : List ℕ) (row : ℕ) : Type 0 where
+pub record SumsReady (G : Setting) (A B : List ℤ) (claims : List ℕ) (row lifting : ℕ) : Type 0 where
   pub limits : Within G
   pub row-is : row ≡ G .columns
+  pub lifting-is : lifting ≡ lift G
   pub rows-long : G .rows * G .inner ≤ length A
   pub columns-long : G .columns * G .inner ≤ length B
   pub claims-long : G .rows * G .columns ≤ length claims
 
 pub record SumRowReady (G : Setting) (A B : List ℤ) (claims : List ℕ) (row lifting i : ℕ) (before : Answer) : Type 0 where
-  pub sums : SumsReady G A B claims row
-  pub lifting-is : lifting ≡ lift G
+  pub sums : SumsReady G A B claims row lifting
   pub run : RunTo (sumSteps G A B claims) (i * G .columns) before
   pub row-ends : i * G .inner + G .inner ≤ length A
   pub claims-end : i * G .columns + G .columns ≤ length claims
@@ -68,14 +68,13 @@ pub record SumRowReady (G : Setting) (A B : List ℤ) (claims : List ℕ) (row l
 abbrev pub RowCompared : Setting → List ℤ → List ℤ → List ℕ → ℕ → Answer → Type 0
 RowCompared G A B claims i after = RunPast (sumSteps G A B claims) (i * G .columns + G .columns) after
 
-pub sum-row-ready : {G : Setting} {A B : List ℤ} {claims : List ℕ} {row lifting i : ℕ} {before : Answer} → SumsReady G A B claims row
-    → lifting ≡ lift G → i < G .rows → RunTo (sumSteps G A B claims) (i * G .columns) before → SumRowReady G A B claims row lifting i before
-sum-row-ready {G} sums lifting-is l run =
+pub sum-row-ready : {G : Setting} {A B : List ℤ} {claims : List ℕ} {row lifting i : ℕ} {before : Answer}
+    → SumsReady G A B claims row lifting → i < G .rows → RunTo (sumSteps G A B claims) (i * G .columns) before → SumRowReady G A B claims row lifting i before
+sum-row-ready {G} sums l run =
     let within = row-inside (G .columns) l in
     let most = counts (sums .limits .sizes) in
     record {
       sums = sums;
-      lifting-is = lifting-is;
       run = run;
       row-ends = omega (arith, row-inside (G .inner) l, sums .rows-long);
       claims-end = omega (arith, sums .claims-long);
@@ -95,7 +94,7 @@ module _ {G : Setting} {A B : List ℤ} {claims old sums : List ℕ} {lifting i 
       let column : j * G .inner + G .inner ≤ length B = omega (arith, row-inside (G .inner) l, ready .sums .columns-long) in
       let sum : getD sums j 0 ≡ lineSum A B (G .inner) i j =
       (rw row-long at (summed .each j)) (omega (arith, ready .sums .row-is)) column in
-      rw (digits-div i l, digits-mod i l, sum, ready .lifting-is, part-of claims (i * n) n j 0 l)
+      rw (digits-div i l, digits-mod i l, sum, ready .sums .lifting-is, part-of claims (i * n) n j 0 l)
 
   module _ {count : ℕ} (count-is : count ≡ first (length sums) (claimedFor sums (lineAt claims (G .columns) i) lifting)) where
     row-long : length sums ≡ G .columns

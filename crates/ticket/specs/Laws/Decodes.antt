@@ -40,9 +40,9 @@ use Rattle.residue.specs.Laws.Residues.{entry-low, entry-high, entry-small, res
 use Rattle.algebra.specs.Laws.Fills.{Filled}
 use Rattle.algebra.specs.Laws.Positions.{by-rows}
 use Rattle.ticket.specs.declared.setting.Setting.{Setting}
-use Rattle.ticket.specs.Rules.{halfRange, lift, parts, part, partSize, ofA, ofB, ofBias, ofQuotients, ofRemainders, biasColumns, recordBytes, valueAt, valueIn, shiftedQuotient, entryA, entryB, entryBias, quotient, remainder, claim, hasBias}
+use Rattle.ticket.specs.Rules.{halfRange, parts, part, partSize, ofA, ofB, ofBias, ofQuotients, ofRemainders, biasColumns, recordBytes, valueAt, valueIn, shiftedQuotient, entryA, entryB, entryBias, quotient, remainder, claim, hasBias}
 use Rattle.ticket.specs.Laws.First.{true-or-false}
-use Rattle.ticket.specs.Laws.Limits.{with-bias, without-bias, half-small, clamped, clamped-same}
+use Rattle.ticket.specs.Laws.Limits.{with-bias, without-bias, half-small, lift, clamped, clamped-same}
 use Rattle.ticket.specs.Laws.Layout.{partBytes, part-bytes-long, value-of-part, value-in}
 use Rattle.ticket.specs.Laws.Passes.{Passed, valid}
 use Rattle.ticket.specs.Laws.Differences.{bias-entry, no-bias-entry, residue-bias, size-entryA, size-entryB, shifted-below, remainder-below, residue-entryB}
@@ -225,14 +225,17 @@ module _ {G : Setting} {t : List ℕ} (passed : Passed G t) where
         }
       where
         -- a shifted quotient times the scale, and a remainder, is the claim of the two, lifted
-        claim-lifted : (s r : ℕ) → pos (s * G .scale + r) ≡ pos (G .scale) *ℤ (pos s -ℤ pos (halfRange G)) +ℤ pos r +ℤ pos (lift G)
+        claim-lifted : (s r : ℕ)
+            → pos (s * G .scale + r) ≡ pos (G .scale) *ℤ (pos s -ℤ pos (halfRange G)) +ℤ pos r -ℤ pos (G .rounding) +ℤ pos (lift G)
         claim-lifted s r =
             let q = pos s -ℤ pos (halfRange G) in
             let scaled = pos (G .scale) *ℤ q in
-            equal-of-parts (pos (s * G .scale + r)) (scaled +ℤ pos r +ℤ pos (lift G))
+            let claimed = scaled +ℤ pos r -ℤ pos (G .rounding) in
+            equal-of-parts (pos (s * G .scale + r)) (claimed +ℤ pos (lift G))
             (omega (
               arith,
-              parts-sum (scaled +ℤ pos r) (pos (lift G)),
+              parts-sum claimed (pos (lift G)),
+              parts-difference (scaled +ℤ pos r) (pos (G .rounding)),
               parts-sum scaled (pos r),
               parts-product (pos (G .scale)) q,
               ap (λ n. G .scale * n) (parts-difference (pos s) (pos (halfRange G))),

@@ -6,7 +6,7 @@
 --   remainder-below, small-remainder   a remainder is a natural number below the scale
 --   bias-entry, no-bias-entry  a bias entry, where there is a bias and where there is none
 --   size-bias                  it is at most its bound in size
---   claim-is                   what a claim puts for its sum, written out
+--   claim-exactly              a claim puts S for its sum exactly when scale times quotient plus remainder is what is divided for S
 --   biasedSum-is               an exact sum with its bias is an entry of the product of the two matrices, and that of the third added
 --   size-sum-of                of entries within their bounds it is at most as large as it can be
 --   size-due                   so is what a claim is compared with
@@ -19,12 +19,12 @@
 use Prim.Native.Nat.{ℕ, _+_, _*_, _/_, _%_, _^_, _≤_, _<_}
 use native.Mathlib.Nat.{div-add-mod, mul-le-mul-left}
 use native.Mathlib.Omega.{arith}
-use mathlib.Core.Path.{_≡_, refl, _∙_}
-use mathlib.Core.Logic.{_⊎_, inl, inr, ⊎-elim}
+use mathlib.Core.Path.{_≡_, refl, sym, ap, _∙_}
+use mathlib.Core.Logic.{_⊎_, inl, inr, ⊎-elim, _↔_}
 use mathlib.Core.Bool.{true, false}
 use mathlib.Core.List.{List}
 use borrow.Author.Tests.{leb-true, ltb-true}
-use lib.IntN.{ℤ, pos, negsuc, natAbs, _+ℤ_, _-ℤ_, _*ℤ_, ℤ-discrete}
+use lib.IntN.{ℤ, pos, negsuc, natAbs, _+ℤ_, _-ℤ_, _*ℤ_, ℤ-discrete, +ℤ-negℤ-cancel, -ℤ-+ℤ-cancel}
 use Rattle.residue.specs.Rules.{modulus, leastResidue, signedEntry}
 use Rattle.residue.specs.Laws.Integers.{positive, negative, parts-difference}
 use Rattle.residue.specs.Laws.Residues.{residue-of-entry, residue-of-residue, residue-shift}
@@ -33,9 +33,9 @@ use Rattle.algebra.specs.Rules.{matrixProduct}
 use Rattle.algebra.specs.Laws.IntegerSums.{size-sum, size-difference, size-product}
 use Rattle.algebra.specs.Laws.MatrixProducts.{size-matrixProduct}
 use Rattle.ticket.specs.declared.setting.Setting.{Setting}
-use Rattle.ticket.specs.Rules.{reach, halfRange, isEntry, shiftedQuotient, parts, part, ofA, ofB, ofBias, ofQuotients, ofRemainders, biasBound, biasColumns, valueIn, entryA, entryB, entryBias, quotient, remainder, claim, exactSum, biasedSum, due, Untrue, FalseIn, hasBias}
+use Rattle.ticket.specs.Rules.{reach, halfRange, isEntry, shiftedQuotient, parts, part, ofA, ofB, ofBias, ofQuotients, ofRemainders, biasBound, biasColumns, valueIn, entryA, entryB, entryBias, quotient, remainder, claim, exactSum, biasedSum, due, dividend, Untrue, FalseIn, hasBias}
 use Rattle.ticket.specs.Laws.First.{true-or-false, all-or-first}
-use Rattle.ticket.specs.Laws.Limits.{half-double, with-bias, bias-there}
+use Rattle.ticket.specs.Laws.Limits.{half-double, range-double, with-bias, bias-there}
 use Rattle.ticket.specs.Laws.Passes.{Passed, Valid, valid}
 
 -- the size of the difference of two numbers that are at most b apart
@@ -43,9 +43,13 @@ size-between : (z : ℤ) (u v b : ℕ) → positive z + v ≡ u + negative z →
 size-between (pos n) u v b e above below = omega arith
 size-between (negsuc n) u v b e above below = omega arith
 
-pub claim-is : (G : Setting) (t : List ℕ) (i j : ℕ) → claim G t i j ≡ pos (G .scale) *ℤ quotient G t i j +ℤ remainder G t i j
+pub claim-exactly : (G : Setting) (t : List ℕ) (i j : ℕ) (S : ℤ)
+    → (claim G t i j ≡ S) ↔ (pos (G .scale) *ℤ quotient G t i j +ℤ remainder G t i j ≡ dividend G S)
 unfolding claim
-claim-is G t i j = refl
+claim-exactly G t i j S = (
+  λ e. sym (-ℤ-+ℤ-cancel _ (pos (G .rounding))) ∙ ap (λ z. z +ℤ pos (G .rounding)) e,
+  λ e. ap (λ z. z -ℤ pos (G .rounding)) e ∙ +ℤ-negℤ-cancel S (pos (G .rounding)),
+)
 
 module _ (G : Setting) (t : List ℕ) (i j : ℕ) where
   pub bias-entry : hasBias G ≡ true → entryBias G t i j ≡ signedEntry modulus (valueIn G t ofBias i j)
@@ -117,10 +121,17 @@ module _ {G : Setting} {t : List ℕ} (passed : Passed G t) where
     claims-close =
         let scaled : natAbs (pos (G .scale) *ℤ quotient G t i j) ≤ G .scale * halfRange G =
         rw (size-product (pos (G .scale)) (quotient G t i j)) (mul-le-mul-left (G .scale) size-quotient) in
-        let claimed : natAbs (claim G t i j) ≤ natAbs (pos (G .scale) *ℤ quotient G t i j) + valueIn G t ofRemainders i j =
-        size-sum (pos (G .scale) *ℤ quotient G t i j) (remainder G t i j) in
-        let room : 2 * halfRange G * G .scale < modulus = rw (half-double {G = G} (passed .numbers)) (passed .fitted .claims) in
-        omega (arith, size-difference (claim G t i j) (due G t i j), remainder-below, size-due, passed .fitted .sums)
+        let made = pos (G .scale) *ℤ quotient G t i j +ℤ remainder G t i j in
+        omega (
+          arith,
+          size-difference (claim G t i j) (due G t i j),
+          size-difference made (pos (G .rounding)),
+          size-sum (pos (G .scale) *ℤ quotient G t i j) (remainder G t i j),
+          remainder-below,
+          size-due,
+          range-double {G = G} (passed .numbers),
+          passed .fitted,
+        )
 
     pub residue-quotient : leastResidue modulus (quotient G t i j) ≡ valueIn G t ofQuotients i j
     unfolding quotient shiftedQuotient parts part

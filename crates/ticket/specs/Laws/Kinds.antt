@@ -22,10 +22,10 @@ use Rattle.residue.specs.Rules.{modulus, signedEntry}
 use Rattle.residue.specs.Laws.Modulus.{modulus-below}
 use Rattle.ticket.specs.declared.published.PlainSetting.{PlainSetting}
 use Rattle.ticket.specs.declared.setting.Setting.{Setting}
-use Rattle.ticket.specs.Rules.{test, firstFailed, plain, withBias, hasBias, biasBound, biasColumns, biasWithin, mostBiasBound, lift, sizesWithin, numbersWithin, fits, settingTests, settingNumber, parts, partSize, part, start, records, holder, ticketLength, ofA, ofB, ofBias, ofQuotients, ofRemainders, valueIn, entryA, entryB, exactSum, biasedSum, due}
+use Rattle.ticket.specs.Rules.{test, firstFailed, plain, withBias, hasBias, biasBound, biasColumns, biasWithin, roundingWithin, mostBiasBound, reach, halfRange, sizesWithin, numbersWithin, fits, settingTests, settingNumber, parts, partSize, part, start, records, holder, ticketLength, ofA, ofB, ofBias, ofQuotients, ofRemainders, valueIn, entryA, entryB, exactSum, biasedSum, due}
 use Rattle.ticket.specs.Laws.Differences.{bias-entry, no-bias-entry}
 use Rattle.ticket.specs.Laws.Layout.{parts-are, held, length-is}
-use Rattle.ticket.specs.Laws.Limits.{Numbers, with-bias, without-bias, lift-double}
+use Rattle.ticket.specs.Laws.Limits.{Numbers, with-bias, without-bias, range-double}
 
 pub plain-none : (P : PlainSetting) → hasBias (plain P) ≡ false
 unfolding hasBias
@@ -84,12 +84,14 @@ module _ (P : PlainSetting) where
   pub plain-tests : settingNumber (plain P) ≡ firstFailed (
       test (sizesWithin (plain P)) 1
       ∷ test (numbersWithin (plain P)) 2
-      ∷ test (leb (P .inner * (P .bound * P .bound) + P .scale - 1) (2 ^ (P .width - 1) * P .scale) && ltb (2 ^ P .width * P .scale) modulus) 3
+      ∷ test (ltb (P .rounding) (P .scale)) 19
+      ∷ test (leb (P .inner * (P .bound * P .bound) + P .rounding + P .scale - 1) (2 ^ (P .width - 1) * P .scale)
+      && ltb (2 ^ P .width * P .scale) modulus) 3
       ∷ [])
-  unfolding settingTests biasWithin fits firstFailed
+  unfolding settingTests biasWithin roundingWithin fits firstFailed
   plain-tests =
       let sum = P .inner * (P .bound * P .bound) in
-      let same : sum + biasBound G + P .scale - 1 ≡ sum + P .scale - 1 = omega (arith, none .0) in
+      let same : sum + biasBound G + P .rounding + P .scale - 1 ≡ sum + P .rounding + P .scale - 1 = omega (arith, none .0) in
       rw (le-leb (biasBound G) mostBiasBound (omega (arith, none .0)), same)
 
   -- what a claim is compared with
@@ -112,9 +114,11 @@ module _ (P : PlainSetting) (W : ℕ) where
       test (sizesWithin (withBias P W)) 1
       ∷ test (numbersWithin (withBias P W)) 2
       ∷ test (leb W (2 ^ 30)) 17
-      ∷ test (leb (P .inner * (P .bound * P .bound) + W + P .scale - 1) (2 ^ (P .width - 1) * P .scale) && ltb (2 ^ P .width * P .scale) modulus) 3
+      ∷ test (ltb (P .rounding) (P .scale)) 19
+      ∷ test (leb (P .inner * (P .bound * P .bound) + W + P .rounding + P .scale - 1) (2 ^ (P .width - 1) * P .scale)
+      && ltb (2 ^ P .width * P .scale) modulus) 3
       ∷ [])
-  unfolding settingTests biasWithin fits
+  unfolding settingTests biasWithin roundingWithin fits
   bias-tests = rw (some .0)
 
   pub bias-due : (t : List ℕ) (i j : ℕ)
@@ -129,9 +133,11 @@ largest-bias-unfit G most numbers = (
   le-leb (biasBound G) mostBiasBound (omega arith),
   elim (decLt (2 ^ G .width * G .scale) modulus) [
     | yes l ↦
-        let sum = G .inner * (G .bound * G .bound) + biasBound G + G .scale - 1 in
-        rw (lt-leb sum (lift G) (omega (arith, most, lift-double numbers, numbers .scale, modulus-below)))
+        rw (lt-leb sum (halfRange G * G .scale) (omega (arith, most, range-double numbers, numbers .scale, modulus-below)))
     | no l ↦ rw (le-ltb (2 ^ G .width * G .scale) modulus (omega arith))
-        (and-false (leb (G .inner * (G .bound * G .bound) + biasBound G + G .scale - 1) (lift G)))
+        (and-false (leb sum (halfRange G * G .scale)))
   ],
 )
+  where
+    sum : ℕ
+    sum = reach G + G .rounding + G .scale - 1

@@ -14,8 +14,8 @@ use Rattle.residue.specs.Laws.Integers.{positive, negative, equal-of-parts, par
 use Rattle.residue.specs.Laws.Modulus.{modulus-below}
 use Rattle.residue.specs.Laws.Residues.{residue-of-residue, residue-sum, residue-close}
 use Rattle.ticket.specs.declared.setting.Setting.{Setting}
-use Rattle.ticket.specs.Rules.{reach, lift}
-use Rattle.ticket.specs.Laws.Limits.{Numbers, Fitted, lift-small}
+use Rattle.ticket.specs.Rules.{reach}
+use Rattle.ticket.specs.Laws.Limits.{Numbers, Fitted, lift, lift-small}
 
 abbrev pub Lifted : Setting → ℤ → ℕ → Type 0
 Lifted G S x = pos x ≡ S +ℤ pos (lift G)

@@ -17,14 +17,17 @@
 --   Counts G, counts       how many records the parts have at most, numbers a challenge list, and products all sums
 --   half-small, half-double   half of the quotients' range is small, and twice that is the range
 --   FitProducts G, fit-products   the products of the test of the fit, none of them large
---   lift-double            twice the lift, as the fit has it
---   lift-small             twice the lift of a setting that fits is below p
---   bias-small             so is twice the bound of its bias
+--   lift G                 half of the quotients' range times the scale, and the rounding number: with it added, neither a sum nor what a
+--                          claim puts for it is negative, and the sum is ready to be divided
+--   range-double           twice that half times the scale, as the fit has it
+--   lift-small             the lift, and the largest size of a sum, are together below p, where the setting fits
+--   bias-small             and so is twice the bound of its bias
 --   clamped G              the setting with no size, scale or width above its limit
 --   clamped-same           that is the setting itself, where it is within its limits
 --   fitsBy G h, numberBy G h   the fit and the number of the setting, where h is put for half of the quotients' range
 --   number-by              by that half it is the setting's number
---   Clamped G, clamped-small   the width of a clamped setting is not large, nor are products of its numbers
+--   lift-made              the lift as the code makes it, of that half, is the setting's and below p
+--   Clamped G, clamped-small   the width and the scale of a clamped setting are not large, nor are products of its numbers
 use Prim.Native.Nat.{ℕ, suc, _+_, _-_, _*_, _^_, _≤_, _<_, min}
 use native.Mathlib.Nat.{le-trans, mul-le-mul, pow-suc, min-eq-left, min-le-right}
 use native.Mathlib.Omega.{arith}
@@ -36,7 +39,7 @@ use lib.Dec.{leb, ltb}
 use lib.Pow.{pow-mono}
 use Rattle.residue.specs.Rules.{modulus}
 use Rattle.ticket.specs.declared.setting.Setting.{Setting}
-use Rattle.ticket.specs.Rules.{unless, firstFailed, within, mostRows, mostInner, mostColumns, mostVectors, mostScale, mostBound, mostWidth, mostBiasBound, biasWithin, reach, halfRange, lift, sizesWithin, numbersWithin, fits, settingTests, settingNumber, sumProducts, hasBias, biasBound, biasColumns}
+use Rattle.ticket.specs.Rules.{unless, firstFailed, within, mostRows, mostInner, mostColumns, mostVectors, mostScale, mostBound, mostWidth, mostBiasBound, biasWithin, roundingWithin, reach, halfRange, sizesWithin, numbersWithin, fits, settingTests, settingNumber, sumProducts, hasBias, biasBound, biasColumns}
 use Rattle.ticket.specs.Laws.First.{true-or-false}
 use Rattle.ticket.specs.Laws.Tests.{AllHold, Failed, here, later, first-holds, rest-hold, Numbered, tests-hold}
 
@@ -58,7 +61,7 @@ pub record Numbers (G : Setting) : Type 0 where
   pub width : (1 ≤ G .width) × (G .width ≤ mostWidth)
 
 pub record Fitted (G : Setting) : Type 0 where
-  pub sums : reach G + G .scale - 1 ≤ lift G
+  pub sums : reach G + G .rounding + G .scale - 1 ≤ halfRange G * G .scale
   pub claims : 2 ^ G .width * G .scale < modulus
 
 -- the products of the test of the fit: none is large
@@ -141,12 +144,16 @@ pub limits-of : (G : Setting) → AllHold (settingTests G) → Within G
 unfolding settingTests
 limits-of G h =
     let rest = rest-hold h in
-    record { sizes = sizes-of G (first-holds h); numbers = numbers-of G (first-holds rest); fitted = fitted-of G (first-holds (rest-hold (rest-hold rest))) }
+    let last = rest-hold (rest-hold (rest-hold rest)) in
+    record { sizes = sizes-of G (first-holds h); numbers = numbers-of G (first-holds rest); fitted = fitted-of G (first-holds last) }
 
 pub setting-numbered : (G : Setting) → Numbered (settingTests G)
 unfolding settingTests Numbered
 setting-numbered G =
-    ((omega arith, inl (omega arith)), ((omega arith, inl (omega arith)), ((omega arith, inr (omega arith)), ((omega arith, inl (omega arith)), tt))))
+    (
+      (omega arith, inl (omega arith)),
+      ((omega arith, inl (omega arith)), ((omega arith, inr (omega arith)), ((omega arith, inr (omega arith)), ((omega arith, inl (omega arith)), tt)))),
+    )
 
 pub setting-holds : (G : Setting) → settingNumber G ≡ 0 → AllHold (settingTests G)
 setting-holds G e = tests-hold (settingTests G) (setting-numbered G) e
@@ -155,6 +162,7 @@ setting-holds G e = tests-hold (settingTests G) (setting-numbered G) e
 pub data SettingRow (G : Setting) : ℕ → Type 0 where
   setting-row : (c : ℕ) → 1 ≤ c → c ≤ 3 → SettingRow G c
   bias-bound-row : hasBias G ≡ true → SettingRow G 17
+  rounding-row : SettingRow G 19
 
 pub setting-in-table : (G : Setting) {c : ℕ} → Failed (settingTests G) c → SettingRow G c
 unfolding settingTests biasWithin
@@ -164,7 +172,8 @@ setting-in-table G (later a (later b (here e))) =
     ⊎-elim bias-bound-row
     (λ none. absurd (true≢false (sym (le-leb (biasBound G) mostBiasBound (omega (arith, without-bias G none .0))) ∙ e)))
     (true-or-false (hasBias G))
-setting-in-table G (later a (later b (later c (here e)))) = setting-row 3 (omega arith) (omega arith)
+setting-in-table G (later a (later b (later c (here e)))) = rounding-row
+setting-in-table G (later a (later b (later c (later d (here e))))) = setting-row 3 (omega arith) (omega arith)
 
 pub half-small : {G : Setting} → Numbers G → halfRange G ≤ 2 ^ 29
 half-small {G} numbers = pow-mono {j = 29} (omega arith)
@@ -179,14 +188,17 @@ fit-products sizes numbers =
     let square = mul-le-mul (numbers .bound .1) (numbers .bound .1) in
     record { square = square; sums = mul-le-mul (sizes .inner .1) square; lifted = λ half l. mul-le-mul l (numbers .scale .1) }
 
-pub lift-double : {G : Setting} → Numbers G → 2 * lift G ≡ 2 ^ G .width * G .scale
-lift-double {G} numbers = omega (arith, ap (λ n. n * G .scale) (half-double numbers))
+abbrev pub lift : Setting → ℕ
+lift G = halfRange G * G .scale + G .rounding
 
-pub lift-small : {G : Setting} → Numbers G → Fitted G → 2 * lift G < modulus
-lift-small numbers fitted = omega (arith, lift-double numbers, fitted .claims)
+pub range-double : {G : Setting} → Numbers G → 2 * (halfRange G * G .scale) ≡ 2 ^ G .width * G .scale
+range-double {G} numbers = omega (arith, ap (λ n. n * G .scale) (half-double numbers))
+
+pub lift-small : {G : Setting} → Numbers G → Fitted G → reach G + lift G < modulus
+lift-small numbers fitted = omega (arith, range-double numbers, fitted, numbers .scale)
 
 pub bias-small : {G : Setting} → Numbers G → Fitted G → 2 * biasBound G < modulus
-bias-small numbers fitted = omega (arith, lift-small numbers fitted, fitted .sums, numbers .scale)
+bias-small numbers fitted = omega (arith, range-double numbers, fitted, numbers .scale)
 
 -- total calls
 
@@ -200,6 +212,7 @@ clamped G =
       scale = min (G .scale) mostScale;
       bound = G .bound;
       width = min (G .width) mostWidth;
+      rounding = G .rounding;
       biased = G .biased;
       bias = G .bias;
     }
@@ -211,10 +224,12 @@ clamped-same {G} sizes numbers =
     (rw (min-eq-left (numbers .scale .1), min-eq-left (numbers .width .1)))
 
 abbrev pub fitsBy : Setting → ℕ → Bool
-fitsBy G half = leb (reach G + G .scale - 1) (half * G .scale) && ltb (2 * (half * G .scale)) modulus
+fitsBy G half = leb (reach G + G .rounding + G .scale - 1) (half * G .scale) && ltb (2 * (half * G .scale)) modulus
 
 unfoldable pub numberBy : Setting → ℕ → ℕ
-numberBy G half = unless (sizesWithin G) 1 (unless (numbersWithin G) 2 (unless (biasWithin G) 17 (unless (fitsBy G half) 3 0)))
+numberBy G half =
+    unless (sizesWithin G) 1
+    (unless (numbersWithin G) 2 (unless (biasWithin G) 17 (unless (roundingWithin G) 19 (unless (fitsBy G half) 3 0))))
 
 pub number-by : (G : Setting) {half : ℕ} → half ≡ halfRange (clamped G) → numberBy G half ≡ settingNumber G
 unfolding numberBy settingTests firstFailed fits
@@ -222,9 +237,15 @@ number-by G half-is =
     ⊎-elim
     (λ sizes. ⊎-elim
     (λ numbers. let same : clamped G ≡ G = clamped-same (sizes-of G sizes) (numbers-of G numbers) in
-    rw (half-is, same, lift-double (numbers-of G numbers)))
+    rw (half-is, same, range-double (numbers-of G numbers)))
     (λ e. rw e) (true-or-false (numbersWithin G)))
     (λ e. rw e) (true-or-false (sizesWithin G))
+
+pub lift-made : {G : Setting} → Sizes G → Numbers G → Fitted G → {half n : ℕ} → half ≡ halfRange (clamped G)
+    → n ≡ half * clamped G .scale + G .rounding → (n ≡ lift G) × (n < modulus)
+lift-made {G} sizes numbers fitted {n = n} half-is made =
+    let is : n ≡ lift G = made ∙ rw (half-is, clamped-same sizes numbers) in
+    (is, omega (arith, is, lift-small numbers fitted))
 
 pub record Clamped (G : Setting) : Type 0 where
   pub entries-A : G .rows * G .inner ≤ mostRows * mostInner
@@ -233,7 +254,7 @@ pub record Clamped (G : Setting) : Type 0 where
   pub bias : G .rows * biasColumns G ≤ mostRows * mostColumns
   pub products : sumProducts G ≤ mostRows * mostInner * mostColumns
   pub width : G .width ≤ mostWidth
-  pub lifted : lift G ≤ 2 ^ (mostWidth - 1) * mostScale
+  pub scale : G .scale ≤ mostScale
 
 pub clamped-small : (G : Setting) → Clamped (clamped G)
 unfolding clamped
@@ -241,13 +262,12 @@ clamped-small G =
     let rows = min-le-right (G .rows) mostRows in
     let inner = min-le-right (G .inner) mostInner in
     let columns = min-le-right (G .columns) mostColumns in
-    let width = min-le-right (G .width) mostWidth in
     record {
       entries-A = mul-le-mul rows inner;
       entries-B = mul-le-mul inner columns;
       claims = mul-le-mul rows columns;
       bias = mul-le-mul rows (le-trans (bias-columns-most (clamped G)) columns);
       products = mul-le-mul (mul-le-mul rows inner) columns;
-      width = width;
-      lifted = mul-le-mul (pow-mono {j = mostWidth - 1} (omega arith)) (min-le-right (G .scale) mostScale);
+      width = min-le-right (G .width) mostWidth;
+      scale = min-le-right (G .scale) mostScale;
     }

@@ -1,6 +1,6 @@
 -- Quotient and remainder of a sum, as the written ticket claims them and as the code makes them.
 --
---   claim-sum         scale times quotient plus remainder is the sum
+--   claim-sum         scale times quotient plus remainder is what is divided for the sum
 --   remainder-left    the remainder is a natural number below the scale
 --   liftedOf G s      the sum that s is modulo 2^32, lifted
 --   quotientFor G s, remainderFor G s   the least residue of its quotient, and its remainder
@@ -26,22 +26,23 @@ use Rattle.residue.specs.Laws.Residues.{residue-of-residue, residue-shift}
 use Rattle.algebra.specs.Rules.{floorDivision}
 use Rattle.algebra.specs.Laws.FloorDivision.{floor-left, floor-unique}
 use Rattle.ticket.specs.declared.setting.Setting.{Setting}
-use Rattle.ticket.specs.Rules.{reach, halfRange, lift}
-use Rattle.ticket.specs.Laws.Limits.{Numbers, Fitted, Within, clamped, clamped-same, half-small}
+use Rattle.ticket.specs.Rules.{reach, halfRange, dividend}
+use Rattle.ticket.specs.Laws.Limits.{Numbers, Fitted, Within, lift, lift-made, clamped, clamped-same, half-small}
 use Rattle.ticket.specs.Laws.Lifts.{Lifted, lifted-small, lifted-sum}
 use Rattle.writer.specs.Rules.{sumFor, quotientOf, remainderOf}
 
 module _ (G : Setting) (A B C : List ℤ) (i j : ℕ) where
-  pub claim-sum : pos (G .scale) *ℤ quotientOf G A B C i j +ℤ remainderOf G A B C i j ≡ sumFor G A B C i j
+  pub claim-sum : pos (G .scale) *ℤ quotientOf G A B C i j +ℤ remainderOf G A B C i j ≡ dividend G (sumFor G A B C i j)
   unfolding remainderOf
   claim-sum =
       let product = pos (G .scale) *ℤ quotientOf G A B C i j in
-      +ℤ-comm product (sumFor G A B C i j -ℤ product) ∙ -ℤ-+ℤ-cancel (sumFor G A B C i j) product
+      let divided = dividend G (sumFor G A B C i j) in
+      +ℤ-comm product (divided -ℤ product) ∙ -ℤ-+ℤ-cancel divided product
 
   pub remainder-left : 0 < G .scale → (r : ℕ) × (r < G .scale) × (remainderOf G A B C i j ≡ pos r)
   unfolding quotientOf
   remainder-left above =
-      let h = floor-left (sumFor G A B C i j) (G .scale) above in
+      let h = floor-left (dividend G (sumFor G A B C i j)) (G .scale) above in
       let product = pos (G .scale) *ℤ quotientOf G A B C i j in
       let same = claim-sum ∙ sym (h .2) in (
         h .0,
@@ -78,14 +79,14 @@ pub record Lifting (G : Setting) (half lifting : ℕ) : Type 0 where
   pub half-is : half ≡ halfRange G
   pub lift-is : lifting ≡ lift G
 
-pub lifting-of : {G : Setting} {half lifting : ℕ} → Within G → half ≡ halfRange (clamped G) → lifting ≡ half * clamped G .scale → Lifting G half lifting
+pub lifting-of : {G : Setting} {half lifting : ℕ} → Within G → half ≡ halfRange (clamped G) → lifting ≡ half * clamped G .scale + G .rounding
+    → Lifting G half lifting
 lifting-of within half-is lift-is =
-    let same = clamped-same (within .sizes) (within .numbers) in
     record {
       numbers = within .numbers;
       fitted = within .fitted;
-      half-is = half-is ∙ ap halfRange same;
-      lift-is = (rw half-is at lift-is) ∙ ap lift same;
+      half-is = half-is ∙ ap halfRange (clamped-same (within .sizes) (within .numbers));
+      lift-is = lift-made (within .sizes) (within .numbers) (within .fitted) half-is lift-is .0;
     }
 
 module _ {G : Setting} {half lifting x : ℕ} (ready : Lifting G half lifting) (sum : ℕ) (x-is : x ≡ (sum + lifting) % 2 ^ 32) where
@@ -117,12 +118,12 @@ module _ {G : Setting} (numbers : Numbers G) (fitted : Fitted G) (S : ℤ) (smal
   abbrev shifted : ℤ
   shifted = pos (liftedOf G sum / G .scale) -ℤ pos (halfRange G)
 
-  divided : pos (G .scale) *ℤ shifted +ℤ pos (remainderFor G sum) ≡ S
+  divided : pos (G .scale) *ℤ shifted +ℤ pos (remainderFor G sum) ≡ dividend G S
   unfolding remainderFor
   divided =
       let x = liftedOf G sum in
       let scaled = pos (G .scale) *ℤ shifted in
-      equal-of-parts (scaled +ℤ pos (x % G .scale)) S
+      equal-of-parts (scaled +ℤ pos (x % G .scale)) (dividend G S)
       (omega (
         arith,
         parts-sum scaled (pos (x % G .scale)),
@@ -130,6 +131,7 @@ module _ {G : Setting} (numbers : Numbers G) (fitted : Fitted G) (S : ℤ) (smal
         ap (λ n. G .scale * n) (parts-difference (pos (x / G .scale)) (pos (halfRange G))),
         div-add-mod x (G .scale),
         parts-sum S (pos (lift G)),
+        parts-sum S (pos (G .rounding)),
         ap positive lifted,
         ap negative lifted,
       ))
@@ -138,10 +140,10 @@ module _ {G : Setting} (numbers : Numbers G) (fitted : Fitted G) (S : ℤ) (smal
   unfolding remainderFor
   left-small = mod-lt (liftedOf G sum) (omega (arith, numbers .scale))
 
-  quotient : shifted ≡ floorDivision S (G .scale)
-  quotient = floor-unique S shifted (G .scale) (remainderFor G sum) left-small divided
+  quotient : shifted ≡ floorDivision (dividend G S) (G .scale)
+  quotient = floor-unique (dividend G S) shifted (G .scale) (remainderFor G sum) left-small divided
 
-  pub quotient-true : quotientFor G sum ≡ leastResidue modulus (floorDivision S (G .scale))
+  pub quotient-true : quotientFor G sum ≡ leastResidue modulus (floorDivision (dividend G S) (G .scale))
   unfolding quotientFor
   quotient-true =
       let x = liftedOf G sum / G .scale in
@@ -162,17 +164,17 @@ module _ {G : Setting} (numbers : Numbers G) (fitted : Fitted G) (S : ℤ) (smal
       ]
       ∙ ap (leastResidue modulus) quotient
 
-  pub remainder-true : remainderFor G sum ≡ leastResidue modulus (S -ℤ pos (G .scale) *ℤ floorDivision S (G .scale))
+  pub remainder-true : remainderFor G sum ≡ leastResidue modulus (dividend G S -ℤ pos (G .scale) *ℤ floorDivision (dividend G S) (G .scale))
   remainder-true =
       let scaled = pos (G .scale) *ℤ shifted in
-      let left : pos (remainderFor G sum) ≡ S -ℤ scaled =
-      equal-of-parts (pos (remainderFor G sum)) (S -ℤ scaled)
+      let left : pos (remainderFor G sum) ≡ dividend G S -ℤ scaled =
+      equal-of-parts (pos (remainderFor G sum)) (dividend G S -ℤ scaled)
       (omega (
         arith,
-        parts-difference S scaled,
+        parts-difference (dividend G S) scaled,
         parts-sum scaled (pos (remainderFor G sum)),
         ap positive divided,
         ap negative divided,
       )) in
       sym (residue-of-residue modulus modulus-positive (remainderFor G sum) (omega (arith, left-small, numbers .scale, modulus-above)))
-      ∙ ap (leastResidue modulus) (left ∙ ap (λ z. S -ℤ pos (G .scale) *ℤ z) quotient)
+      ∙ ap (leastResidue modulus) (left ∙ ap (λ z. dividend G S -ℤ pos (G .scale) *ℤ z) quotient)

@@ -18,10 +18,10 @@ use lib.IntN.{ℤ, pos, natAbs}
 use lib.ListN.{length, getD, List·getD-eq-default}
 use Rattle.residue.specs.Laws.Modulus.{modulus-below}
 use Rattle.ticket.specs.declared.setting.Setting.{Setting}
-use Rattle.ticket.specs.Rules.{reach, halfRange, lift, biasBound, biasColumns, hasBias}
+use Rattle.ticket.specs.Rules.{reach, halfRange, biasBound, biasColumns, hasBias}
 use Rattle.ticket.specs.Laws.Differences.{size-sum-of}
 use Rattle.ticket.specs.Laws.Layout.{parts-are}
-use Rattle.ticket.specs.Laws.Limits.{Within, limits-of, with-bias, without-bias, bias-small, clamped, clamped-same, lift-small}
+use Rattle.ticket.specs.Laws.Limits.{Within, limits-of, with-bias, without-bias, bias-small, clamped, lift-made}
 use Rattle.ticket.specs.Laws.First.{true-or-false}
 use Rattle.writer.specs.Rules.{entryOf, sumFor}
 use Rattle.writer.specs.Laws.Answers.{Writable}
@@ -31,13 +31,8 @@ module _ {G : Setting} {A B C : List ℤ} (w : Writable G A B C) where
   pub limits : Within G
   limits = limits-of G (w .setting)
 
-  unclamped : clamped G ≡ G
-  unclamped = clamped-same (limits .sizes) (limits .numbers)
-
-  pub lift-fits : {half n : ℕ} → half ≡ halfRange (clamped G) → n ≡ half * clamped G .scale → n < 2 ^ 32
-  lift-fits {n = n} half-is e =
-      let is : n ≡ lift (clamped G) = rw half-is at e in
-      omega (arith, is ∙ ap lift unclamped, lift-small (limits .numbers) (limits .fitted), modulus-below)
+  pub lift-fits : {half n : ℕ} → half ≡ halfRange (clamped G) → n ≡ half * clamped G .scale + G .rounding → n < 2 ^ 32
+  lift-fits half-is made = omega (arith, lift-made (limits .sizes) (limits .numbers) (limits .fitted) half-is made, modulus-below)
 
   pub long-A : length A ≡ G .rows * G .inner
   long-A = w .long-A ∙ parts-are G .size-A

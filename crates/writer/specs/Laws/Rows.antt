@@ -204,7 +204,7 @@ module _ {G : Setting} {half : ℕ} {A B C line columns : List ℤ} {sums before
           early = omega (arith, parts-are G, few, at);
         }
 
-    pub row-ready : {lifting : ℕ} {now output : List ℕ} → lifting ≡ half * clamped G .scale → length now ≡ length made
+    pub row-ready : {lifting : ℕ} {now output : List ℕ} → lifting ≡ half * clamped G .scale + G .rounding → length now ≡ length made
         → length output ≡ length before → RowReady G half lifting C (row * G .columns) now quotients remainders output
     row-ready lift-is long same =
         let claims = row-inside (G .columns) l in

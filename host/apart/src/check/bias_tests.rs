@@ -52,17 +52,17 @@ fn the_lengths() {
     assert_eq!(bias_ticket_length(&K_WITH_BIAS), 160);
     assert_eq!(ticket_length(&K), 128);
     // 8·5·(2^32 - 1)², exact all the same: (2^32 - 1)² = 2^64 - 2^33 + 1.
-    let greatest = BiasSetting::from([u32::MAX; 8]);
+    let greatest = BiasSetting::from([u32::MAX; 9]);
     assert_eq!(bias_ticket_length(&greatest), 40 * ((1 << 64) - (1 << 33) + 1));
 }
 
 #[test]
 fn the_numbers_of_a_setting() {
-    let setting = BiasSetting::from([1, 2, 3, 4, 5, 6, 7, 8]);
-    assert_eq!(setting.setting, Setting::from([1, 2, 3, 4, 5, 6, 7]));
-    assert_eq!(setting.bias_bound, 8);
-    assert_eq!(setting.numbers(), [1, 2, 3, 4, 5, 6, 7, 8]);
-    assert_eq!(BiasSetting::from([2, 2, 2, 1, 10, 8, 5, 23]), K_WITH_BIAS);
+    let setting = BiasSetting::from([1, 2, 3, 4, 5, 6, 7, 8, 9]);
+    assert_eq!(setting.setting, Setting::from([1, 2, 3, 4, 5, 6, 7, 8]));
+    assert_eq!(setting.bias_bound, 9);
+    assert_eq!(setting.numbers(), [1, 2, 3, 4, 5, 6, 7, 8, 9]);
+    assert_eq!(BiasSetting::from([2, 2, 2, 1, 10, 8, 5, 0, 23]), K_WITH_BIAS);
 }
 
 #[test]
@@ -365,7 +365,7 @@ fn tickets_of_the_other_form() {
 fn the_greatest_bias() {
     // S + c = 1073676290 = 32767·32767 + 1, and -1073676290 = 32767·(-32768) +
     // 32766.
-    let setting = BiasSetting::from([1, 1, 1, 1, 32_767, 1, 16, 1_073_676_289]);
+    let setting = BiasSetting::from([1, 1, 1, 1, 32_767, 1, 16, 0, 1_073_676_289]);
     let answer_to = |a, c, quotient, remainder| {
         let parts = Parts {
             a: vec![a],
@@ -386,8 +386,8 @@ fn the_greatest_bias() {
 #[test]
 fn every_number_at_its_greatest() {
     let answer_to = |numbers| bias_challenge_check(&BiasSetting::from(numbers), &[], &[]);
-    assert_eq!(answer_to([u32::MAX; 8]), refused(1, 0));
-    for (index, number) in [1, 1, 1, 1, 2, 2, 2, 17].into_iter().enumerate() {
+    assert_eq!(answer_to([u32::MAX; 9]), refused(1, 0));
+    for (index, number) in [1, 1, 1, 1, 2, 2, 2, 19, 17].into_iter().enumerate() {
         let mut numbers = K_WITH_BIAS.numbers();
         numbers[index] = u32::MAX;
         assert_eq!(answer_to(numbers), refused(number, 0));
@@ -397,7 +397,7 @@ fn every_number_at_its_greatest() {
 #[test]
 fn the_largest_ticket() {
     // S = 64 and c = 32 everywhere: 9 times 10 and 6; 64 + 32 + 9 is below 160.
-    let setting = BiasSetting::from([32, 64, 32, 8, 10, 1, 5, 32]);
+    let setting = BiasSetting::from([32, 64, 32, 8, 10, 1, 5, 0, 32]);
     let mut parts = BiasParts::true_ones(&setting, &[1; 2048], &[1; 2048], &[32; 1024]);
     let list = [P32 - 1; 256];
     // 8(2048 + 2048 + 2048), and 7·6144 + 2048 + 32(64 + 64) at the very end.

@@ -234,6 +234,7 @@ fn every_number_at_its_greatest() {
         scale: u32::MAX,
         bound: u32::MAX,
         width: u32::MAX,
+        rounding: u32::MAX,
     };
     assert_eq!(check_setting(setting), refused(1, 0));
     let within_sizes = Setting {

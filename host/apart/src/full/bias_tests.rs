@@ -192,7 +192,7 @@ fn tickets_of_the_other_form() {
 fn sizes_that_differ() {
     // A = (1, -2, 3), B = (4, -5), (6, 7), (-8, 1) and the bias (-100, 110): S +
     // c = -132 and 94. For v = 6 they fit: 3·64 + 119 + 9 = 320 = 32·10.
-    let setting = BiasSetting::from([1, 3, 2, 1, 10, 8, 6, 119]);
+    let setting = BiasSetting::from([1, 3, 2, 1, 10, 8, 6, 0, 119]);
     let right = BiasParts {
         parts: Parts {
             a: vec![1, -2, 3],
@@ -217,8 +217,8 @@ fn sizes_that_differ() {
 #[test]
 fn every_number_at_its_greatest() {
     let answer_to = |numbers| bias_full_check(&BiasSetting::from(numbers), &[]);
-    assert_eq!(answer_to([u32::MAX; 8]), refused(1, 0));
-    for (index, number) in [1, 1, 1, 1, 2, 2, 2, 17].into_iter().enumerate() {
+    assert_eq!(answer_to([u32::MAX; 9]), refused(1, 0));
+    for (index, number) in [1, 1, 1, 1, 2, 2, 2, 19, 17].into_iter().enumerate() {
         let mut numbers = K_WITH_BIAS.numbers();
         numbers[index] = u32::MAX;
         assert_eq!(answer_to(numbers), refused(number, 0));

@@ -263,15 +263,14 @@ fn the_greatest_sums() {
 
 #[test]
 fn every_number_at_its_greatest() {
-    let setting = Setting::from([u32::MAX; 7]);
+    let setting = Setting::from([u32::MAX; 8]);
     assert_eq!(full_check(&setting, &[]), refused(1, 0));
     assert_eq!(full_check(&setting, &[0; 1000]), refused(1, 0));
-    let within_sizes = Setting::from([32, 64, 32, 8, u32::MAX, u32::MAX, u32::MAX]);
+    let within_sizes = Setting::from([32, 64, 32, 8, u32::MAX, u32::MAX, u32::MAX, u32::MAX]);
     assert_eq!(full_check(&within_sizes, &[]), refused(2, 0));
-    for index in 0..7 {
+    for (index, number) in [1, 1, 1, 1, 2, 2, 2, 19].into_iter().enumerate() {
         let mut numbers = K.numbers();
         numbers[index] = u32::MAX;
-        let number = if index < 4 { 1 } else { 2 };
         assert_eq!(full_check(&Setting::from(numbers), &[]), refused(number, 0));
     }
 }

@@ -4,13 +4,16 @@
 
 use super::*;
 use crate::challenge_check;
-use crate::examples::{with_claims, A, B, K};
+use crate::examples::{with_claims, A, B, K, K_WITH_ROUNDING, ROUNDED_TICKET};
 use crate::make::{residue, true_ticket};
 
 const P32: u32 = 2_147_483_647;
 
 /// The setting file of K.
-const SETTING_OF_K: [u8; 16] = [2, 2, 2, 1, 10, 0, 0, 0, 8, 0, 0, 0, 5, 0, 0, 0];
+const SETTING_OF_K: [u8; 20] = [2, 2, 2, 1, 10, 0, 0, 0, 8, 0, 0, 0, 5, 0, 0, 0, 0, 0, 0, 0];
+
+/// The setting file of K with o = 5.
+const SETTING_WITH_ROUNDING: [u8; 20] = [2, 2, 2, 1, 10, 0, 0, 0, 8, 0, 0, 0, 5, 0, 0, 0, 5, 0, 0, 0];
 
 /// The challenge file of case c.
 const CHALLENGE_OF_C: [u8; 8] = [1, 0, 0, 0, 2, 0, 0, 0];
@@ -173,12 +176,17 @@ fn missing_and_empty_files() {
 
 #[test]
 fn setting_files_of_another_length() {
-    // K again and again, so that its 16 bytes stand at the begin of the longer
-    // ones.
+    // K again and again, so that its 20 bytes stand at the begin of the longer
+    // ones. "a file of 16 is now 1", which was the length without o.
     let long = SETTING_OF_K.repeat(5000);
-    for length in (0..=64).chain([255, 256, 272, 65_536, 65_552]) {
-        let expected = if length == 16 { "0 0 0 12\n" } else { "1 0 0 0\n" };
+    let long_with_rounding = SETTING_WITH_ROUNDING.repeat(5000);
+    for length in (0..=64).chain([255, 256, 272, 276, 65_536, 65_552, 65_556]) {
+        let expected = if length == 20 { "0 0 0 12\n" } else { "1 0 0 0\n" };
         assert_eq!(of_bytes(&long[..length], &ticket_of_c(), &CHALLENGE_OF_C), expected);
+        assert_eq!(
+            of_bytes(&long_with_rounding[..length], &ROUNDED_TICKET, &CHALLENGE_OF_C),
+            expected
+        );
     }
 }
 
@@ -204,13 +212,14 @@ fn ticket_files_of_another_length() {
 fn the_order_of_the_tests() {
     // All at once, and then one less each time. In the list of 7 bytes there is
     // one whole number, which is p.
-    let short = &SETTING_OF_K[..15];
+    let short = &SETTING_OF_K[..16];
     let list = [0xFF, 0xFF, 0xFF, 0x7F, 0, 0, 0];
     let file = |setting| setting_file(&setting).expect("each size is within its byte");
     let wrong = Setting {
         columns: 33,
         scale: 1,
         width: 4,
+        rounding: 10,
         ..K
     };
     assert_eq!(of_bytes(short, &[], &list), "1 0 0 0\n");
@@ -218,6 +227,8 @@ fn the_order_of_the_tests() {
     let wrong = Setting { columns: 2, ..wrong };
     assert_eq!(of_bytes(&file(wrong), &[], &list), "2 0 0 0\n");
     let wrong = Setting { scale: 10, ..wrong };
+    assert_eq!(of_bytes(&file(wrong), &[], &list), "19 0 0 0\n");
+    let wrong = Setting { rounding: 9, ..wrong };
     assert_eq!(of_bytes(&file(wrong), &[], &list), "3 0 0 0\n");
     assert_eq!(of_bytes(&SETTING_OF_K, &[], &list), "4 0 0 0\n");
     assert_eq!(of_bytes(&SETTING_OF_K, &with_value(15, 10), &list), "9 15 0 0\n");
@@ -255,17 +266,50 @@ fn every_byte_of_a_number_counts() {
             assert_eq!(of_bytes(&setting, &ticket_of_c(), &CHALLENGE_OF_C), "2 0 0 0\n");
         }
     }
+    // o = 1 is below α, and the claims are untrue under it.
+    let mut setting = SETTING_OF_K;
+    setting[16] = 1;
+    assert_eq!(of_bytes(&setting, &ticket_of_c(), &CHALLENGE_OF_C), "12 0 0 8\n");
+    for place in [17, 18, 19] {
+        for byte in [1, 0x80, 0xFF] {
+            let mut setting = SETTING_OF_K;
+            setting[place] = byte;
+            assert_eq!(of_bytes(&setting, &ticket_of_c(), &CHALLENGE_OF_C), "19 0 0 0\n");
+        }
+    }
+}
+
+#[test]
+fn rounding_to_the_nearest() {
+    let answer_to = |ticket: &[u8]| of_bytes(&SETTING_WITH_ROUNDING, ticket, &CHALLENGE_OF_C);
+    assert_eq!(answer_to(&ROUNDED_TICKET), "0 0 0 12\n");
+    assert_eq!(answer_to(&ticket_of_c()), "12 0 0 8\n");
+    assert_eq!(prints_for_ticket(&ROUNDED_TICKET), "12 0 0 8\n");
+    // In row 1 alone, 4 + 2·4 products.
+    assert_eq!(answer_to(&with_claims([-2, 3, 2, 0], [8, 9, 8, 2])), "12 0 1 12\n");
+}
+
+#[test]
+fn number_19() {
+    for below in [0, 1, 5, 9] {
+        let setting = Setting { rounding: below, ..K };
+        assert_eq!(prints(&setting, &true_ticket(&setting, &A, &B), &[1, 2]), "0 0 0 12\n");
+    }
+    for rounding in [10, 11, 256, 65_536, P32, u32::MAX] {
+        assert_eq!(prints_for_setting(Setting { rounding, ..K }), "19 0 0 0\n");
+    }
 }
 
 #[test]
 fn bytes_of_a_setting() {
     assert_eq!(setting_file(&K), Some(SETTING_OF_K));
-    let setting = Setting::from([1, 2, 3, 4, 0x0807_0605, 0x0C0B_0A09, 0x100F_0E0D]);
-    let bytes = [1, 2, 3, 4, 5, 6, 7, 8, 9, 10, 11, 12, 13, 14, 15, 16];
+    assert_eq!(setting_file(&K_WITH_ROUNDING), Some(SETTING_WITH_ROUNDING));
+    let setting = Setting::from([1, 2, 3, 4, 0x0807_0605, 0x0C0B_0A09, 0x100F_0E0D, 0x1413_1211]);
+    let bytes = [1, 2, 3, 4, 5, 6, 7, 8, 9, 10, 11, 12, 13, 14, 15, 16, 17, 18, 19, 20];
     assert_eq!(setting_file(&setting), Some(bytes));
     assert_eq!(read_setting(&bytes), Ok(setting));
-    let greatest = Setting::from([255, 255, 255, 255, u32::MAX, u32::MAX, u32::MAX]);
-    assert_eq!(setting_file(&greatest), Some([0xFF; 16]));
+    let greatest = Setting::from([255, 255, 255, 255, u32::MAX, u32::MAX, u32::MAX, u32::MAX]);
+    assert_eq!(setting_file(&greatest), Some([0xFF; 20]));
     for index in 0..4 {
         let mut numbers = K.numbers();
         numbers[index] = 256;
@@ -300,11 +344,14 @@ fn the_text_of_an_answer() {
 #[test]
 fn the_same_answer_as_the_check() {
     let numbers = [0, 1, 2, P32 - 1, P32];
-    for ticket in [ticket_of_c(), ticket_of_d(), with_value(8, 16), Vec::new()] {
-        for x in numbers {
-            for y in numbers {
-                let expected = line(&challenge_check(&K, &ticket, &[x, y]));
-                assert_eq!(prints(&K, &ticket, &[x, y]), expected);
+    let rounded = ROUNDED_TICKET.to_vec();
+    for ticket in [ticket_of_c(), ticket_of_d(), rounded, with_value(8, 16), Vec::new()] {
+        for setting in [K, K_WITH_ROUNDING] {
+            for x in numbers {
+                for y in numbers {
+                    let expected = line(&challenge_check(&setting, &ticket, &[x, y]));
+                    assert_eq!(prints(&setting, &ticket, &[x, y]), expected);
+                }
             }
         }
     }

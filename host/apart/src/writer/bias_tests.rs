@@ -125,7 +125,7 @@ fn number_13() {
     assert_eq!(of([&[], &[], &[]]), [13, 0]);
     assert_eq!(of([&A, &[], &[]]), [13, 1]);
     // ℓm = 2, mn = 3 and ℓn = 6; a bias of m by n or ℓ by m is refused.
-    let setting = BiasSetting::from([2, 1, 3, 1, 10, 8, 5, 23]);
+    let setting = BiasSetting::from([2, 1, 3, 1, 10, 8, 5, 0, 23]);
     assert_eq!(refusal(&setting, [&[1; 2], &[1; 3], &[1; 3]], 200), [13, 2]);
     assert_eq!(refusal(&setting, [&[1; 2], &[1; 3], &[1; 2]], 200), [13, 2]);
     assert_eq!(refusal(&setting, [&[1; 2], &[1; 3], &[24; 6]], 200), [18, 5]);
@@ -151,7 +151,7 @@ fn number_18() {
     // The first index decides.
     assert_eq!(refusal(&K_WITH_BIAS, [&A, &B, &[0, 0, -24, 24]], 160), [18, 10]);
     // 3 of A and 6 of B, and then the second of the bias.
-    let setting = BiasSetting::from([1, 3, 2, 1, 10, 8, 6, 119]);
+    let setting = BiasSetting::from([1, 3, 2, 1, 10, 8, 6, 0, 119]);
     assert_eq!(refusal(&setting, [&[1; 3], &[1; 6], &[119, 120]], 120), [18, 10]);
     // A bias bound of 0 allows 0 alone.
     let setting = BiasSetting {
@@ -172,7 +172,7 @@ fn number_15() {
 #[test]
 fn the_order_of_the_tests() {
     // All at once, and then one less each time.
-    let mut setting = BiasSetting::from([2, 2, 33, 1, 1, 8, 4, u32::MAX]);
+    let mut setting = BiasSetting::from([2, 2, 33, 1, 1, 8, 4, 0, u32::MAX]);
     let wrong: [&[i32]; 3] = [&[9; 3], &[9; 3], &[24; 3]];
     assert_eq!(refusal(&setting, wrong, 0), [1, 0]);
     setting.setting.columns = 2;
@@ -203,7 +203,7 @@ fn the_order_of_the_tests() {
 fn the_greatest_bias() {
     // S + c = 1073676290 = 32767·32767 + 1, and -1073676290 = 32767·(-32768) +
     // 32766; p - 1073676289 = 1073807358 and p - 32768 = 2147450879.
-    let setting = BiasSetting::from([1, 1, 1, 1, 32_767, 1, 16, 1_073_676_289]);
+    let setting = BiasSetting::from([1, 1, 1, 1, 32_767, 1, 16, 0, 1_073_676_289]);
     assert_eq!(
         values_of_one(&setting, 1, 1, 1_073_676_289),
         [1, 1, 1_073_676_289, 32_767, 1]
@@ -228,7 +228,7 @@ fn what_stands_for_a_small_entry_modulo_p_is_beyond_all_the_same() {
 #[test]
 fn a_bias_that_moves_a_sum_over_a_multiple_of_the_scale() {
     // S = 6, and c from -23 to 23: -17, -10, -1, 0, 9, 10, 29.
-    let setting = BiasSetting::from([1, 1, 1, 1, 10, 8, 5, 23]);
+    let setting = BiasSetting::from([1, 1, 1, 1, 10, 8, 5, 0, 23]);
     let of = |c| {
         let [.., quotient, remainder] = values_of_one(&setting, 2, 3, c);
         [quotient, remainder]
@@ -245,8 +245,8 @@ fn a_bias_that_moves_a_sum_over_a_multiple_of_the_scale() {
 #[test]
 fn every_number_at_its_greatest() {
     let of = |numbers| refusal(&BiasSetting::from(numbers), [&A, &B, &BIAS], 160);
-    assert_eq!(of([u32::MAX; 8]), [1, 0]);
-    for (index, number) in [1, 1, 1, 1, 2, 2, 2, 17].into_iter().enumerate() {
+    assert_eq!(of([u32::MAX; 9]), [1, 0]);
+    for (index, number) in [1, 1, 1, 1, 2, 2, 2, 19, 17].into_iter().enumerate() {
         let mut numbers = K_WITH_BIAS.numbers();
         numbers[index] = u32::MAX;
         assert_eq!(of(numbers), [number, 0]);
@@ -257,7 +257,7 @@ fn every_number_at_its_greatest() {
 fn the_largest_ticket() {
     // 8·(2048 + 2048 + 3·1024) = 57344 bytes, and 65536 products. S = 64 in row
     // 0 and 0 in the others, and c = -31: 33 = 3·10 + 3 and -31 = -4·10 + 9.
-    let setting = BiasSetting::from([32, 64, 32, 8, 10, 1, 5, 31]);
+    let setting = BiasSetting::from([32, 64, 32, 8, 10, 1, 5, 0, 31]);
     let mut a = [0; 2048];
     a[..64].fill(-1);
     let b = [-1; 2048];

@@ -18,6 +18,7 @@ const OF_ONE: Setting = Setting {
     scale: 32_767,
     bound: 32_767,
     width: 16,
+    rounding: 0,
 };
 
 fn answer(number: u32, place: u32, row: u32, products: u32) -> Answer {
@@ -258,6 +259,7 @@ fn rows_and_columns_that_differ() {
 
 #[test]
 fn the_floor() {
+    let claim = |sum, scale| claim(&Setting { scale, ..K }, sum);
     // "-17 over 10 is -2, not -1."
     assert_eq!(claim(-17, 10), (-2, 3));
     assert_eq!(claim(-2, 10), (-1, 8));
@@ -287,15 +289,14 @@ fn the_floor_is_the_one_quotient_with_a_remainder_in_range() {
 
 #[test]
 fn every_number_at_its_greatest() {
-    let setting = Setting::from([u32::MAX; 7]);
+    let setting = Setting::from([u32::MAX; 8]);
     assert_eq!(refusal(&setting, &[], &[], 0), [1, 0]);
     assert_eq!(refusal(&setting, &[i32::MIN; 9], &[i32::MAX; 9], 1000), [1, 0]);
-    let within_sizes = Setting::from([32, 64, 32, 8, u32::MAX, u32::MAX, u32::MAX]);
+    let within_sizes = Setting::from([32, 64, 32, 8, u32::MAX, u32::MAX, u32::MAX, u32::MAX]);
     assert_eq!(refusal(&within_sizes, &[], &[], 0), [2, 0]);
-    for index in 0..7 {
+    for (index, number) in [1, 1, 1, 1, 2, 2, 2, 19].into_iter().enumerate() {
         let mut numbers = K.numbers();
         numbers[index] = u32::MAX;
-        let number = if index < 4 { 1 } else { 2 };
         assert_eq!(refusal(&Setting::from(numbers), &A, &B, 128), [number, 0]);
     }
 }

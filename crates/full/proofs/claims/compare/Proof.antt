@@ -1,12 +1,10 @@
 -- The loop keeps that the sums of the rows before this one agree with their claims, with the answer so far.
-use Prim.Native.Nat.{_-_, _*_, _^_, _≤_, _<_}
+use Prim.Native.Nat.{_-_, _*_, _≤_}
 use native.Mathlib.Nat.{mul-le-mul-right}
 use native.Mathlib.Omega.{arith}
 use mathlib.Core.Path.{_≡_, refl, ap, _∙_}
 use lib.ListN.{length}
-use Rattle.residue.specs.Laws.Modulus.{modulus-below}
-use Rattle.ticket.specs.Rules.{answer, lift}
-use Rattle.ticket.specs.Laws.Limits.{lift-small, clamped-same}
+use Rattle.ticket.specs.Rules.{answer}
 use Rattle.ticket.specs.Laws.Runs.{RunTo, run-none, run-ended, run-at}
 use Rattle.full.specs.Laws.Sums.{sumSteps, sum-row-ready}
 use borrow.Author.Needs.{needs}
@@ -20,16 +18,8 @@ Inv-loop setting rows columns claims sums₀ lifting answer₀ row₀ sums answe
 abbrev μ-loop : tie.MeasureT-loop
 μ-loop setting rows columns claims sums₀ lifting answer₀ row₀ sums answer row = setting .rows - row
 
--- the call, when the lift is made
-abbrev start : tie.After-lift Inv-loop μ-loop → tie.Start Inv-loop μ-loop
+abbrev start : tie.At-loop Inv-loop μ-loop → tie.Start Inv-loop μ-loop
 start c = c .before .before .before
-
--- the lift that the code adds is the rule's, and small
-lifting : (c : tie.After-lift Inv-loop μ-loop) → (c .lift .result ≡ lift (start c .args .setting)) × (c .lift .result < 2 ^ 31)
-lifting c =
-    let limits = start c .pre .limits in
-    let same = c .lift .ensures ∙ ap lift (clamped-same (limits .sizes) (limits .numbers)) in
-    (same, omega (arith, same, lift-small (limits .numbers) (limits .fitted), modulus-below))
 
 loop-holds : tie.Need-loop-holds Inv-loop μ-loop
 loop-holds c = (refl, run-at (run-none (ap (answer 0 0 0) (omega arith))) (omega arith), omega arith)
@@ -37,7 +27,7 @@ loop-holds c = (refl, run-at (run-none (ap (answer 0 0 0) (omega arith))) (omega
 compare-row-requires : tie.Need-compare-row-requires Inv-loop μ-loop
 compare-row-requires c κs =
     let at = c .before .before .before in
-    sum-row-ready (rw (at .loop .inv .0) (start (at .before) .pre)) (lifting (at .before) .0) (c .before .if1 .taken) (at .loop .inv .1)
+    sum-row-ready (rw (at .loop .inv .0) (start at .pre)) (c .before .if1 .taken) (at .loop .inv .1)
 
 loop-again : tie.Need-loop-again Inv-loop μ-loop
 loop-again c =
@@ -47,12 +37,12 @@ loop-again c =
 returns-2 : tie.Need-returns-2 Inv-loop μ-loop
 returns-2 c =
     let at = c .before .before in
-    let G = start (at .before) .args .setting in
+    let G = start at .args .setting in
     run-ended (at .loop .inv .1) (mul-le-mul-right (G .columns) (c .if1 .left))
 
 pub compare-spec : {M : Type 1} → statement M
 compare-spec =
     tie.close
-    (tie.spec Inv-loop μ-loop (λ c κs. search needs) (λ c. omega (arith, lifting c)) loop-holds compare-row-requires
+    (tie.spec Inv-loop μ-loop loop-holds compare-row-requires
     (λ c. search needs) (λ c. c .before .before .before .before .compare-row .ensures .stopping (c .if2 .taken)) (λ c. omega arith)
     (λ c. omega arith) loop-again (λ c. search) returns-2)

@@ -1,7 +1,9 @@
+use Prim.Native.Nat.{_^_, _<_}
 use native.Mathlib.Omega.{arith}
-use mathlib.Core.Path.{sym, _∙_}
+use mathlib.Core.Path.{_≡_, sym, _∙_}
 use lib.Seq.{length-take-le}
-use Rattle.full.specs.Laws.Claims.{ListsHold, lists-hold, sums-ready, sums-verdict}
+use Rattle.ticket.specs.Laws.Limits.{lift}
+use Rattle.full.specs.Laws.Claims.{ListsHold, lists-hold, lifting-is, sums-ready, sums-verdict}
 use borrow.Author.Needs.{needs}
 use Rattle.full.proofs.claims.decode_and_compare.Statement.{statement}
 use Rattle.full.proofs.claims.decode_and_compare.Tie as tie
@@ -37,28 +39,43 @@ lists c =
     (of-B at .narrow-entries .ensures) (turned at .turn .ensures) (of-A at .narrow-entries2 .ensures) (at .lifted-claims .ensures)
     (c .subtract-entries .ensures)
 
+-- before the lift, and before its room of the sums
+abbrev less : tie.After-lift-of → tie.After-subtract-entries
+less c = c .before .before .before .before
+
+abbrev made : tie.After-compare-arg3 → tie.After-lift-of
+made c = c .before .before .before
+
+lifted : (c : tie.After-lift-of) → let setting = call (claimed (less c)) .args .setting in
+    (c .lift-of .result ≡ lift setting) × (c .lift-of .result < 2 ^ 31)
+lifted c = let at = claimed (less c) in lifting-is (call at .pre .0) (at .before .before .half .ensures) (c .lift-of .ensures)
+
+cast-lift : tie.Need-cast-lift
+cast-lift c = omega (arith, lifted c)
+
 array-borrow-prefix-sums : tie.Need-array-borrow-prefix-sums
-array-borrow-prefix-sums c =
-    let made = c .before .before .before .before .before .before in
-    omega (arith, call (claimed made) .pre .0 .counts .sizes .columns)
+array-borrow-prefix-sums c = omega (arith, call (claimed (less (made c))) .pre .0 .counts .sizes .columns)
 
 slice-aggregate-compare : tie.Need-slice-aggregate-compare
 slice-aggregate-compare c = sym (length-take-le _ _ (array-borrow-prefix-sums (c .before)))
 
 compare-requires : tie.Need-compare-requires
 compare-requires c κs =
-    let made = c .before .before .before .before .before .before .before in
-    sums-ready (call (claimed made) .pre .0) (lists made) (sym (slice-aggregate-compare c))
+    let at = made (c .before) in
+    sums-ready (call (claimed (less at)) .pre .0) (lists (less at)) (sym (slice-aggregate-compare c)) (lifted at .0)
 
 same-length : tie.Need-same-length
 same-length c =
-    let made = c .before .before .before .before .before .before .before .before .before in
-    of-A (claimed made) .narrow-entries2 .ensures .long ∙ of-B (claimed made) .narrow-entries .ensures .long
+    let at = claimed (less (made (c .before .before .before))) in
+    of-A at .narrow-entries2 .ensures .long ∙ of-B at .narrow-entries .ensures .long
+
+same-length-2 : tie.Need-same-length-2
+same-length-2 c = let at = turned (claimed (less (made (c .before .before .before)))) .turn in search needs
 
 returns : tie.Need-returns
 returns c =
-    let made = c .before .before .before .before .before .before .before .before .before in
-    c .before .compare .ensures ∙ sums-verdict (call (claimed made) .pre .0) (lists made)
+    let at = less (made (c .before .before .before)) in
+    c .before .compare .ensures ∙ sums-verdict (call (claimed at) .pre .0) (lists at)
 
 pub decode-and-compare-spec : {M : Type 1} → statement M
 decode-and-compare-spec =
@@ -67,4 +84,5 @@ decode-and-compare-spec =
     (λ c κs. search needs) (λ c. omega (arith, start (c .before .before .before .before .before) .pre .0 .counts .sizes .inner))
     (λ c. omega (arith, start (c .before .before .before .before .before .before) .pre .0 .counts .sizes .columns))
     (λ c κs. search needs) (λ c κs. search needs) (λ c κs. search needs) (λ c κs. search needs) (λ c κs. search needs) (λ c. search needs)
-    array-borrow-prefix-sums slice-aggregate-compare compare-requires same-length (λ c. search needs) (λ c. search needs) returns)
+    (λ c κs. search needs) cast-lift array-borrow-prefix-sums slice-aggregate-compare compare-requires same-length same-length-2
+    (λ c. search needs) returns)

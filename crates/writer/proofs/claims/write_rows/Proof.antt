@@ -6,7 +6,6 @@ use borrow.Author.Needs.{needs}
 use lib.ListN.{length}
 use Rattle.residue.specs.Laws.Products.{product-below}
 use Rattle.algebra.specs.Laws.Fills.{part-long}
-use Rattle.ticket.specs.Rules.{lift}
 use Rattle.writer.specs.Laws.Entries.{limits, lift-fits, long-B, small-A, small-B}
 use Rattle.writer.specs.Laws.Operands.{small-part}
 use Rattle.writer.specs.Laws.Rows.{RowsAt, RowRoom, ClaimsWrote, claims-early, rows-begun, row-room, row-ready, rows-none, rows-next, rows-more}

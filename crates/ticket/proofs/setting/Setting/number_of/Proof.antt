@@ -23,21 +23,30 @@ returns-2 c =
     rw (sizes (c .before .before), ← c .before .numbers-within .ensures, not-true (c .before .numbers-within .result) (c .if2 .taken))
 
 fits-requires : tie.Need-fits-requires
-fits-requires c κs =
-    let two = c .before in
-    let one = two .before .before in
-    (sizes-of _ (sizes one), numbers-of _ (numbers two))
+fits-requires c κs = (sizes-of _ (sizes (c .before .before)), numbers-of _ (numbers c))
 
 returns-3 : tie.Need-returns-3
 unfolding numberBy
 returns-3 c =
-    let bias = c .before .before .before in
-    let two = bias .before in
-    c .unless2 .ensures
-    ∙ rw (sizes (two .before .before), numbers two, bias .bias-within .ensures, c .before .unless .ensures, c .before .before .fits2 .ensures)
+    let bias = c .before in
+    let rounding = bias .before in
+    let rounded = rounding .before in
+    let fitting = rounded .before in
+    let fitted = fitting .before in
+    let two = fitted .before in
+    c .unless3 .ensures
+    ∙ rw (
+      sizes (two .before .before),
+      numbers two,
+      bias .bias-within .ensures,
+      rounding .unless2 .ensures,
+      rounded .rounding-within .ensures,
+      fitting .unless .ensures,
+      fitted .fits2 .ensures,
+    )
 
 pub number-of-spec : {M : Type 1} → statement M
 number-of-spec =
     tie.close
-    (tie.spec (λ c κs. search needs) returns (λ c κs. search needs) returns-2 (λ c κs. search needs) fits-requires (λ c κs. search needs)
-    (λ c κs. search needs) returns-3)
+    (tie.spec (λ c κs. search needs) returns (λ c κs. search needs) returns-2 fits-requires (λ c κs. search needs) (λ c κs. search needs)
+    (λ c κs. search needs) (λ c κs. search needs) (λ c κs. search needs) returns-3)
