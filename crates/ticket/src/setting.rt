@@ -242,7 +242,8 @@ impl Setting {
         let reach = sum + (self.largest_bias() as u64);
         let scale = self.scale as u64;
         let most = (half.0 as u64) * scale;
-        (reach + (self.rounding as u64) + scale - 1 <= most) & (2 * most < Residue::modulus() as u64)
+        (reach + (self.rounding as u64) + scale - 1 <= most)
+            & (2 * most < Residue::modulus() as u64)
     }
 }
 

@@ -202,8 +202,8 @@ fn write_row(
     }
 }
 
-// The claim for one sum S, which is known modulo 2^32. S is lifted by half times the scale, so that it is not negative: the quotient
-// of the lifted sum is half more than that of S, and the remainder is the same.
+// The claim for one sum S, which is known modulo 2^32. S is lifted by half times the scale and the rounding number o, so that it is not
+// negative: the quotient of the lifted sum is half more than that of S + o, and the remainder is the same.
 fn divide(setting: Setting, half: Residue, lift: u32, sum: u32) -> Claim
     requires { ⌜ Lifting setting (half .0) lift ⌝ }
     ensures { λ r. ⌜ Claimed setting sum (r .quotient .0) (r .remainder .0) ⌝ }

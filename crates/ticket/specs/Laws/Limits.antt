@@ -149,11 +149,10 @@ limits-of G h =
 
 pub setting-numbered : (G : Setting) → Numbered (settingTests G)
 unfolding settingTests Numbered
-setting-numbered G =
-    (
-      (omega arith, inl (omega arith)),
-      ((omega arith, inl (omega arith)), ((omega arith, inr (omega arith)), ((omega arith, inr (omega arith)), ((omega arith, inl (omega arith)), tt)))),
-    )
+setting-numbered G = (
+  (omega arith, inl (omega arith)),
+  ((omega arith, inl (omega arith)), ((omega arith, inr (omega arith)), ((omega arith, inr (omega arith)), ((omega arith, inl (omega arith)), tt)))),
+)
 
 pub setting-holds : (G : Setting) → settingNumber G ≡ 0 → AllHold (settingTests G)
 setting-holds G e = tests-hold (settingTests G) (setting-numbered G) e
