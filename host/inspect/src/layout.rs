@@ -120,7 +120,7 @@ mod tests {
     /// The layouts of a plain ticket and of a bias ticket.
     fn layouts(sizes: [u32; 3]) -> [Layout; 2] {
         let [rows, inner, columns] = sizes;
-        let setting = Setting::from([rows, inner, columns, 1, 10, 8, 5]);
+        let setting = Setting::from([rows, inner, columns, 1, 10, 8, 5, 0]);
         [None, Some(23)].map(|bias_bound| Layout::new(Terms { setting, bias_bound }))
     }
 

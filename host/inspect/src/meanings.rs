@@ -82,10 +82,10 @@ mod tests {
     #[test]
     fn numbers_mean_something_else_with_a_bias() {
         for (call, number, with_bias) in [
-            ("challenge check", 3, "m·T² + W + α - 1 ≤ 2^(v-1)·α"),
+            ("challenge check", 3, "m·T² + W + o + α - 1 ≤ 2^(v-1)·α"),
             ("full check", 4, "8(ℓm + mn + 3ℓn)"),
             ("writer", 13, "that of the bias is not ℓn"),
-            ("full check", 16, "α·q + r is not S + c"),
+            ("full check", 16, "α·q + r - o is not S + c"),
         ] {
             let words = |call: &str| meaning(call, answer([number, 0, 0, 0])).expect("words");
             assert!(!words(call).contains(with_bias));

@@ -73,11 +73,19 @@ fn no_setting_text(file: &Option<Contents>) -> String {
     if !shown.is_empty() {
         text += &format!("  it begins {}\n", hex(shown));
     }
-    text + &format!("  a setting has {} bytes\n", inputs::SETTING)
+    text += &format!("  a setting has {} bytes\n", inputs::SETTING);
+    if bytes.len() == inputs::FORMER_SETTING {
+        text += "  this is one of the former form, without a rounding number: append four zero bytes for o = 0\n";
+    }
+    text
 }
 
 fn setting_text(file: &Option<Contents>, Terms { setting, bias_bound }: Terms) -> String {
     let mut table = Table::default();
+    let rounding = match setting.rounding {
+        0 => "0 to α - 1; it adds nothing",
+        _ => "0 to α - 1; it is added to each sum before that is divided",
+    };
     let bias = bias_bound.map(|bound| ("bias", "W", bound, "0 to 1073741824, by --bias"));
     let numbers = [
         ("rows", "ℓ", setting.rows, "1 to 32"),
@@ -87,10 +95,11 @@ fn setting_text(file: &Option<Contents>, Terms { setting, bias_bound }: Terms) -
         ("scale", "α", setting.scale, "2 to 65536"),
         ("bound", "T", setting.bound, "1 to 32767"),
         ("width", "v", setting.width, "1 to 30"),
+        ("rounding", "o", setting.rounding, rounding),
     ];
     for (name, letter, number, limits) in numbers.into_iter().chain(bias) {
         // Words are padded here, so that they stand to the left.
-        let (name, limits) = (format!("{name:<7}"), format!("of {limits:<26}"));
+        let (name, limits) = (format!("{name:<8}"), format!("of {limits:<60}"));
         table.line([name, letter.to_string(), number.to_string(), limits]);
     }
     heading("setting.rec", file) + &table.text()

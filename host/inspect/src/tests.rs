@@ -11,9 +11,14 @@ use crate::files::{Contents, Files, READ_AT_MOST};
 use crate::report::report;
 use crate::terms::Terms;
 
-/// ℓ = m = n = 2, s = 1, α = 10, T = 8, v = 5.
+/// ℓ = m = n = 2, s = 1, α = 10, T = 8, v = 5, o = 0.
 fn k() -> Terms {
-    plain([2, 2, 2, 1, 10, 8, 5])
+    plain([2, 2, 2, 1, 10, 8, 5, 0])
+}
+
+/// K with o = 5, half of α.
+fn k_rounded() -> Terms {
+    plain([2, 2, 2, 1, 10, 8, 5, 5])
 }
 
 /// K with W = 23, the most that fits.
@@ -21,7 +26,12 @@ fn k_with_bias() -> Terms {
     with_bias(23, k())
 }
 
-fn plain(setting: [u32; 7]) -> Terms {
+/// K with W = 23, o = 5 and v = 6, which fits.
+fn k_rounded_with_bias() -> Terms {
+    with_bias(23, plain([2, 2, 2, 1, 10, 8, 6, 5]))
+}
+
+fn plain(setting: [u32; 8]) -> Terms {
     let setting = Setting::from(setting);
     Terms {
         setting,
@@ -35,7 +45,7 @@ fn with_bias(bound: u32, terms: Terms) -> Terms {
 }
 
 /// The true ticket for A = (3, -2), (5, 4), B = (-1, 6), (7, -8) and, where there
-/// is a bias, (-4, 23), (-23, 5), under K.
+/// is a bias, (-4, 23), (-23, 5), under K or another of its sizes.
 fn true_ticket(terms: Terms) -> Vec<u8> {
     written(terms, [&[3, -2, 5, 4], &[-1, 6, 7, -8], &[-4, 23, -23, 5]])
 }
@@ -59,7 +69,8 @@ fn set_value(ticket: &mut [u8], record: usize, value: u32) {
 
 fn setting_bytes(setting: Setting) -> Vec<u8> {
     let sizes = [setting.rows, setting.inner, setting.columns, setting.vectors].map(|size| size as u8);
-    [&sizes[..], &list_bytes(&[setting.scale, setting.bound, setting.width])].concat()
+    let numbers = [setting.scale, setting.bound, setting.width, setting.rounding];
+    [&sizes[..], &list_bytes(&numbers)].concat()
 }
 
 fn list_bytes(list: &[u32]) -> Vec<u8> {

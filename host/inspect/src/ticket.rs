@@ -32,12 +32,7 @@ impl Ticket<'_> {
             text += &format!("\n{name}: {rows} by {columns}, from record {first}\n");
             text += &self.matrix(part);
         }
-        text += match self.layout.bias {
-            None => "\nclaims: α·q + r beside S, the exact sum of A(row, k)·B(k, column) over all k\n",
-            Some(_) => {
-                "\nclaims: α·q + r beside S + c; S is the exact sum of A(row, k)·B(k, column) over all k, c the bias\n"
-            }
-        };
+        text += &self.claims_heading();
         text += &self.claims();
         if !self.marked.is_empty() {
             text += "\n*: a record that the full check's answer names\n";
@@ -59,6 +54,18 @@ impl Ticket<'_> {
         table.text()
     }
 
+    fn claims_heading(&self) -> String {
+        let sum = "the exact sum of A(row, k)·B(k, column) over all k";
+        match self.added() {
+            None => format!("\nclaims: α·q + r beside S, {sum}\n"),
+            Some(due) => {
+                let bias = if self.layout.bias.is_some() { ", c the bias" } else { "" };
+                let rounding = if self.rounds() { ", o the rounding number" } else { "" };
+                format!("\nclaims: α·q + r beside {due}; S is {sum}{bias}{rounding}\n")
+            }
+        }
+    }
+
     fn claims(&self) -> String {
         let Layout {
             bias,
@@ -66,11 +73,9 @@ impl Ticket<'_> {
             remainders,
             ..
         } = *self.layout;
-        let mut headings = vec!["row", "column", "quotient ", "remainder ", "α·q + r", "S"];
-        if bias.is_some() {
-            headings.extend(["c ", "S + c"]);
-        }
-        let mut table = Table::new(headings);
+        let headings = ["row", "column", "quotient ", "remainder ", "α·q + r", "S"];
+        let bias_heading = bias.map(|_| "c ");
+        let mut table = Table::new(headings.into_iter().chain(bias_heading).chain(self.added()));
         let shown = |number: Option<i128>| number.map_or("-".to_string(), |number| number.to_string());
         for row in 0..quotients.rows {
             for column in 0..quotients.columns {
@@ -84,9 +89,8 @@ impl Ticket<'_> {
                     shown(claimed),
                     shown(self.exact_sum(row, column)),
                 ];
-                if let Some(bias) = bias {
-                    line.extend([self.cell(bias, row, column), shown(due)]);
-                }
+                line.extend(bias.map(|bias| self.cell(bias, row, column)));
+                line.extend(self.added().map(|_| shown(due)));
                 if claimed.is_some() && due.is_some() && claimed != due {
                     line.push("differs".to_string());
                 }
@@ -94,6 +98,21 @@ impl Ticket<'_> {
             }
         }
         table.text()
+    }
+
+    /// What stands beside S, where anything is added to it.
+    fn added(&self) -> Option<&'static str> {
+        match (self.layout.bias.is_some(), self.rounds()) {
+            (false, false) => None,
+            (false, true) => Some("S + o"),
+            (true, false) => Some("S + c"),
+            (true, true) => Some("S + c + o"),
+        }
+    }
+
+    /// The reader adds to a sum before it divides.
+    fn rounds(&self) -> bool {
+        self.setting.rounding > 0
     }
 
     /// The number at a row and column, with a star or with room for one.
@@ -111,10 +130,10 @@ impl Ticket<'_> {
         Some(i128::from(self.setting.scale) * quotient + i128::from(remainder))
     }
 
-    /// What a claim is compared with: S, or S + c where there is a bias.
+    /// What α·q + r is compared with: S, with c added where there is a bias, and o.
     fn due(&self, row: usize, column: usize) -> Option<i128> {
         let bias = self.layout.bias.map_or(Some(0), |bias| self.entry(bias, row, column));
-        Some(self.exact_sum(row, column)? + bias?)
+        Some(self.exact_sum(row, column)? + bias? + i128::from(self.setting.rounding))
     }
 
     /// S, where all of its factors are residues.

@@ -21,7 +21,7 @@ fn here(answer: Answer, Terms { setting, bias_bound }: Terms) -> String {
         7 => within(setting.bound),
         18 => bias_bound.map(within).unwrap_or_default(),
         8 => format!("; allowed: -{half} to {}", half - 1),
-        9 => format!("; allowed: 0 to {}", setting.scale.saturating_sub(1)),
+        9 | 19 => format!("; allowed: 0 to {}", setting.scale.saturating_sub(1)),
         16 => {
             let columns = setting.columns.max(1);
             let (row, column) = (answer.place / columns, answer.place % columns);

@@ -10,6 +10,8 @@ mod list_number;
 mod long;
 pub mod marked;
 mod precedence;
+mod rounded;
+pub mod rounding_number;
 mod setting_length;
 mod setting_number;
 mod surroundings;
@@ -18,6 +20,8 @@ mod unreadable;
 mod value;
 
 use crate::case::Family;
+
+use drawn::Rounding;
 
 /// All of them. Whether permissions hold decides what stands in the place of a
 /// file without read permission.
@@ -33,14 +37,20 @@ pub fn all(permissions_hold: bool) -> Vec<Family> {
         Family::new("numbers of the setting", setting_number::cases()),
         Family::new("values of the ticket", value::cases()),
         Family::new("numbers of the list", list_number::cases()),
-        Family::new("true tickets drawn", drawn::true_tickets()),
-        Family::new("false tickets drawn", drawn::false_tickets()),
+        Family::new("true tickets drawn", drawn::true_tickets(Rounding::Zero)),
+        Family::new("false tickets drawn", drawn::false_tickets(Rounding::Zero)),
         Family::new("damaged files drawn", drawn::damaged_files()),
         unreadable::family(permissions_hold),
         Family::new("symbolic links", links::cases()),
         Family::new("very long files and little memory", long::cases()),
         Family::new("other files and names", surroundings::cases()),
         Family::new("arguments", arguments::cases()),
+        Family::new("rounding numbers", rounding_number::cases()),
+        Family::new("rounded tickets", rounded::cases()),
+        Family::new("rounded true tickets drawn", drawn::true_tickets(Rounding::Drawn)),
+        Family::new("rounded false tickets drawn", drawn::false_tickets(Rounding::Drawn)),
+        Family::new("rounded tickets of another number drawn", drawn::tickets_of_another()),
+        Family::new("rounding numbers with a bit changed, drawn", drawn::changed_bits()),
     ]
 }
 

@@ -27,10 +27,25 @@ impl Sample {
         }
     }
 
+    /// The same with half the scale as o.
+    pub fn rounded() -> Sample {
+        use apart::examples::{A, B, K_WITH_ROUNDING};
+        Sample {
+            setting: K_WITH_ROUNDING,
+            ticket: apart::true_ticket(&K_WITH_ROUNDING, &A, &B),
+            ..Sample::of_c()
+        }
+    }
+
     /// ℓ = 3, m = 4, n = 5, s = 3, no two of the sizes of the parts alike: 12, 20,
     /// 15.
     pub fn of_three_vectors() -> Sample {
-        let setting = Setting::from([3, 4, 5, 3, 100, 50, 10]);
+        Sample::of_three_vectors_rounded(0)
+    }
+
+    /// The same with this o, below 100.
+    pub fn of_three_vectors_rounded(rounding: u32) -> Sample {
+        let setting = Setting::from([3, 4, 5, 3, 100, 50, 10, rounding]);
         let (a, b) = operands(&setting);
         Sample {
             setting,
@@ -41,7 +56,12 @@ impl Sample {
 
     /// Every size at its greatest: a ticket of 49,152 bytes, a list of 1,024.
     pub fn largest() -> Sample {
-        let (setting, parts) = largest_parts();
+        Sample::largest_rounded(0)
+    }
+
+    /// The same with this o, up to 49,153.
+    pub fn largest_rounded(rounding: u32) -> Sample {
+        let (setting, parts) = largest_parts(rounding);
         Sample {
             setting,
             ticket: parts.ticket(&setting),
@@ -81,10 +101,11 @@ impl Sample {
     }
 }
 
-/// The largest setting, and the parts of a true ticket under it: 64·2896² +
-/// 65,535 = 536,821,759 is not above 2^13·65,536 = 536,870,912, so it fits.
-pub fn largest_parts() -> (Setting, Parts) {
-    let setting = Setting::from([32, 64, 32, 8, 65_536, 2_896, 14]);
+/// The largest setting with this o, and the parts of a true ticket under it:
+/// 64·2896² + 65,535 = 536,821,759 is below 2^13·65,536 = 536,870,912 by 49,153,
+/// so it fits up to that o.
+pub fn largest_parts(rounding: u32) -> (Setting, Parts) {
+    let setting = Setting::from([32, 64, 32, 8, 65_536, 2_896, 14, rounding]);
     let (a, b) = operands(&setting);
     (setting, Parts::true_ones(&setting, &a, &b))
 }
@@ -142,7 +163,14 @@ mod tests {
 
     #[test]
     fn the_samples_are_accepted() {
-        for sample in [Sample::of_c(), Sample::of_three_vectors(), Sample::largest()] {
+        for sample in [
+            Sample::of_c(),
+            Sample::rounded(),
+            Sample::of_three_vectors(),
+            Sample::of_three_vectors_rounded(50),
+            Sample::largest(),
+            Sample::largest_rounded(49_153),
+        ] {
             let answer = apart::challenge_check(&sample.setting, &sample.ticket, &sample.list);
             assert_eq!(answer.number, 0);
         }

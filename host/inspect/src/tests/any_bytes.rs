@@ -40,12 +40,24 @@ fn holds(setting_file: &[u8], ticket: &[u8], list_file: &[u8]) {
         for (check, answer) in checks {
             assert_eq!(answer_shown(&text, check), Some(answer.numbers()));
         }
+        // Where every claim was tested, those that are shown to differ are the untrue ones.
+        let [(_, full), _] = checks;
+        if full.number == 0 || full.number == 16 {
+            let claims = table(&text, "claims: ");
+            let first = claims.iter().position(|line| line.ends_with("  differs"));
+            assert_eq!(first, (full.number == 16).then_some(full.place as usize), "{text}");
+        }
     }
 }
 
 #[test]
 fn tickets_of_every_length() {
-    for (terms, due) in [(k(), 128), (k_with_bias(), 160)] {
+    for (terms, due) in [
+        (k(), 128),
+        (k_rounded(), 128),
+        (k_with_bias(), 160),
+        (k_rounded_with_bias(), 160),
+    ] {
         let long = [true_ticket(terms), true_ticket(terms)].concat();
         for length in 0..=200 {
             let ticket = &long[..length];
@@ -81,7 +93,12 @@ fn settings_of_every_length() {
 
 #[test]
 fn lists_of_every_length() {
-    for (terms, products) in [(k(), 12), (k_with_bias(), 16)] {
+    for (terms, products) in [
+        (k(), 12),
+        (k_rounded(), 12),
+        (k_with_bias(), 16),
+        (k_rounded_with_bias(), 16),
+    ] {
         let [setting, ticket] = [setting_bytes(terms.setting), true_ticket(terms)];
         for length in 0..40 {
             holds(&setting, &ticket, &vec![1; length]);
@@ -101,7 +118,7 @@ fn lists_of_every_length() {
 fn random_bytes() {
     for seed in 0..2000 {
         let mut random = Random(seed);
-        let setting = [16, 16, 16, 15, 17, 0, 40][random.below(7)];
+        let setting = [20, 20, 20, 16, 19, 21, 0, 40][random.below(8)];
         let [ticket, list] = [random.below(300), random.below(100)];
         holds(&random.bytes(setting), &random.bytes(ticket), &random.bytes(list));
     }
@@ -128,11 +145,13 @@ fn random_records_of_the_right_length() {
         for size in &mut setting[..4] {
             *size = random.below(6) as u8;
         }
+        // The first byte of o; α is 10.
+        setting[16] = random.below(12) as u8;
         if seed % 2 == 0 {
-            setting[4..].copy_from_slice(&random.bytes(12));
+            setting[4..].copy_from_slice(&random.bytes(16));
         }
         let layout = Layout::new(Terms {
-            setting: inputs::setting(&setting).expect("16 bytes"),
+            setting: inputs::setting(&setting).expect("20 bytes"),
             bias_bound: [None, Some(4)][random.below(2)],
         });
         let mut ticket = random.bytes(8 * layout.records());
@@ -156,7 +175,7 @@ fn random_records_of_the_right_length() {
 fn damaged_tickets() {
     for seed in 0..2000 {
         let mut random = Random(seed);
-        let terms = [k(), k_with_bias()][random.below(2)];
+        let terms = [k(), k_with_bias(), k_rounded(), k_rounded_with_bias()][random.below(4)];
         let mut ticket = true_ticket(terms);
         for _ in 0..=random.below(4) {
             let at = random.below(ticket.len());

@@ -10,12 +10,22 @@ use crate::report::no_answers;
 use crate::words::{count, hex};
 
 #[test]
-fn a_false_ticket_is_shown_as_expected() {
+fn tickets_are_shown_as_expected() {
     for (folder, bias_bound, expected) in [
-        ("tickets", None, include_str!("caught-last-column.txt")),
-        ("bias-tickets", Some(23), include_str!("caught-last-column-of-bias.txt")),
+        (
+            "tickets/caught-last-column",
+            None,
+            include_str!("caught-last-column.txt"),
+        ),
+        ("tickets/unrounded-with", None, include_str!("unrounded-with.txt")),
+        (
+            "bias-tickets/caught-last-column",
+            Some(23),
+            include_str!("caught-last-column-of-bias.txt"),
+        ),
+        ("bias-tickets/rounded", Some(23), include_str!("rounded-of-bias.txt")),
     ] {
-        let files = Files::read(&examples(folder).join("caught-last-column")).expect("an example");
+        let files = Files::read(&examples(folder)).expect("an example");
         assert_eq!(report(&files, bias_bound), expected);
     }
 }
@@ -55,12 +65,12 @@ fn matrices_can_be_read_back_from_their_tables() {
     for terms in [
         k(),
         k_with_bias(),
-        plain([1, 1, 1, 1, 2, 1, 2]),
-        with_bias(0, plain([1, 1, 1, 1, 2, 1, 2])),
-        plain([3, 5, 4, 2, 1000, 10_000, 20]),
-        with_bias(1_000_000, plain([3, 5, 4, 2, 1000, 10_000, 20])),
-        plain([12, 11, 13, 8, 7, 100, 20]),
-        with_bias(3_000_000, plain([12, 11, 13, 8, 7, 100, 20])),
+        plain([1, 1, 1, 1, 2, 1, 2, 1]),
+        with_bias(0, plain([1, 1, 1, 1, 2, 1, 2, 1])),
+        plain([3, 5, 4, 2, 1000, 10_000, 20, 500]),
+        with_bias(1_000_000, plain([3, 5, 4, 2, 1000, 10_000, 20, 500])),
+        plain([12, 11, 13, 8, 7, 100, 20, 0]),
+        with_bias(3_000_000, plain([12, 11, 13, 8, 7, 100, 20, 0])),
     ] {
         let operands = random.operands(terms);
         let operands = operands.each_ref().map(Vec::as_slice);
@@ -93,9 +103,9 @@ fn matrices_can_be_read_back_from_their_tables() {
 
 #[test]
 fn claims_that_differ_are_marked_and_no_other() {
-    let setting = plain([3, 5, 4, 1, 10, 8, 8]);
+    let [down, nearest] = [0, 5].map(|rounding| plain([3, 5, 4, 1, 10, 8, 8, rounding]));
     let mut random = Random(2);
-    for terms in [setting, with_bias(50, setting)] {
+    for terms in [down, nearest, with_bias(50, down), with_bias(50, nearest)] {
         let ticket = random.ticket(terms);
         let text = shown_under(terms, &ticket, &[1; 4]);
         assert_eq!(table(&text, "claims: ").len(), 12);
@@ -135,25 +145,122 @@ fn claims_that_differ_are_marked_and_no_other() {
     }
 }
 
+/// Row, column, quotient, remainder, α·q + r and S, then c where there is a bias,
+/// and what is divided where anything is added.
 #[test]
-fn sums_stand_beside_the_bias() {
-    let text = shown_under(k_with_bias(), &true_ticket(k_with_bias()), &[1, 2]);
-    let claims = table(&text, "claims: ");
-    let numbers = claims.iter().map(|line| {
-        let numbers: Vec<i32> = line
-            .split_whitespace()
-            .map(|number| number.parse().expect("a number"))
-            .collect();
-        numbers
-    });
-    // Row, column, quotient, remainder, α·q + r, S, c, S + c.
-    let expected = [
-        [0, 0, -3, 9, -21, -17, -4, -21],
-        [0, 1, 5, 7, 57, 34, 23, 57],
-        [1, 0, 0, 0, 0, 23, -23, 0],
-        [1, 1, 0, 3, 3, -2, 5, 3],
-    ];
-    assert!(numbers.eq(expected), "{text}");
+fn sums_stand_beside_what_is_added() {
+    for (terms, last, expected) in [
+        (
+            k(),
+            "S",
+            [
+                &[0, 0, -2, 3, -17, -17][..],
+                &[0, 1, 3, 4, 34, 34],
+                &[1, 0, 2, 3, 23, 23],
+                &[1, 1, -1, 8, -2, -2],
+            ],
+        ),
+        (
+            k_rounded(),
+            "S + o",
+            [
+                &[0, 0, -2, 8, -12, -17, -12],
+                &[0, 1, 3, 9, 39, 34, 39],
+                &[1, 0, 2, 8, 28, 23, 28],
+                &[1, 1, 0, 3, 3, -2, 3],
+            ],
+        ),
+        (
+            k_with_bias(),
+            "S + c",
+            [
+                &[0, 0, -3, 9, -21, -17, -4, -21],
+                &[0, 1, 5, 7, 57, 34, 23, 57],
+                &[1, 0, 0, 0, 0, 23, -23, 0],
+                &[1, 1, 0, 3, 3, -2, 5, 3],
+            ],
+        ),
+        (
+            k_rounded_with_bias(),
+            "S + c + o",
+            [
+                &[0, 0, -2, 4, -16, -17, -4, -16],
+                &[0, 1, 6, 2, 62, 34, 23, 62],
+                &[1, 0, 0, 5, 5, 23, -23, 5],
+                &[1, 1, 0, 8, 8, -2, 5, 8],
+            ],
+        ),
+    ] {
+        let text = shown_under(terms, &true_ticket(terms), &[1, 2]);
+        let mut headings = text.lines().skip_while(|line| !line.starts_with("claims: "));
+        let heading = headings.next().expect("a heading");
+        assert!(heading.starts_with(&format!("claims: α·q + r beside {last}")), "{text}");
+        assert!(
+            headings.next().expect("names").ends_with(&format!("  {last}")),
+            "{text}"
+        );
+        let claims = table(&text, "claims: ");
+        let numbers = claims.iter().map(|line| {
+            let numbers: Vec<i32> = line
+                .split_whitespace()
+                .map(|number| number.parse().expect("a number"))
+                .collect();
+            numbers
+        });
+        assert!(numbers.eq(expected), "{text}");
+    }
+}
+
+/// The true ticket of o = 0 and, where it fits, that of the same o.
+#[test]
+fn any_rounding_number_is_taken_and_shown() {
+    for rounding in [0, 1, 5, 9, 10, 256 + 5, 5 << 24, u32::MAX] {
+        let terms = plain([2, 2, 2, 1, 10, 8, 5, rounding]);
+        let [full, challenge] = match rounding {
+            0 => [[0, 0, 0, 8], [0, 0, 0, 12]],
+            1..=9 => [[16, 0, 0, 2], [12, 0, 0, 8]],
+            _ => [[19, 0, 0, 0]; 2],
+        };
+        let text = shown_under(terms, &true_ticket(k()), &[1, 2]);
+        assert_eq!(answer_shown(&text, "full check"), Some(full), "{text}");
+        assert_eq!(answer_shown(&text, "challenge check"), Some(challenge), "{text}");
+        let line = text.lines().find(|line| line.starts_with("  rounding "));
+        let line = line.expect("a line");
+        let cells: Vec<&str> = line.split_whitespace().collect();
+        assert_eq!(cells[..3], ["rounding", "o", &rounding.to_string()]);
+        assert_eq!(line.ends_with("; it adds nothing"), rounding == 0);
+        assert_eq!(text.contains("; allowed: 0 to 9\n"), rounding > 9, "{text}");
+        // Every claim differs, or none does.
+        let claims = table(&text, "claims: ");
+        assert!(claims.iter().all(|line| line.ends_with("  differs") == (rounding > 0)));
+        if rounding < 10 {
+            let text = shown_under(terms, &true_ticket(terms), &[1, 2]);
+            assert_eq!(answer_shown(&text, "full check"), Some([0, 0, 0, 8]));
+            assert!(!table(&text, "claims: ").iter().any(|line| line.contains("differs")));
+        }
+    }
+}
+
+#[test]
+fn a_setting_of_another_length_is_named() {
+    let bytes = setting_bytes(k().setting);
+    for terms in [k(), k_with_bias()] {
+        for length in 0..20 {
+            let text = shown(&bytes[..length], &true_ticket(terms), &[], terms.bias_bound);
+            assert!(text.contains("\n  a setting has 20 bytes\n"), "{text}");
+            let former = "of the former form, without a rounding number: append four zero bytes for o = 0\n";
+            assert_eq!(text.contains(former), length == 16, "{text}");
+            assert!(text.ends_with(no_answers(terms.bias_bound)));
+        }
+        // As the text says.
+        let appended = [&bytes[..16], &[0; 4]].concat();
+        let text = shown(&appended, &true_ticket(terms), &[], terms.bias_bound);
+        assert_eq!(
+            answer_shown(&text, &terms.call("full check")),
+            Some([0, 0, 0, 8]),
+            "{text}"
+        );
+    }
 }
 
 #[test]
@@ -170,6 +277,27 @@ fn any_bias_bound_is_taken_and_shown() {
         let line = text.lines().find(|line| line.starts_with("  bias "));
         let cells: Vec<&str> = line.expect("a line").split_whitespace().collect();
         assert_eq!(cells[..3], ["bias", "W", &bound.to_string()]);
+        for check in ["bias full check", "bias challenge check"] {
+            assert_eq!(answer_shown(&text, check).expect("an answer")[0], number, "{text}");
+        }
+    }
+}
+
+/// 1, 2, 17, 19, 3.
+#[test]
+fn the_first_fault_of_a_setting_is_the_answer() {
+    let over = (1 << 30) + 1;
+    for (setting, bound, number) in [
+        ([2, 2, 33, 1, 1, 8, 4, 10], over, 1),
+        ([2, 2, 2, 1, 1, 8, 4, 10], over, 2),
+        ([2, 2, 2, 1, 10, 8, 4, 10], over, 17),
+        ([2, 2, 2, 1, 10, 8, 4, 10], over - 1, 19),
+        ([2, 2, 2, 1, 10, 8, 4, 9], over - 1, 3),
+        // 128 + 23 + 1 + 9 is 161, 128 + 18 + 5 + 9 is 160; a bias entry is 23.
+        ([2, 2, 2, 1, 10, 8, 5, 1], 23, 3),
+        ([2, 2, 2, 1, 10, 8, 5, 5], 18, 18),
+    ] {
+        let text = shown_under(with_bias(bound, plain(setting)), &true_ticket(k_with_bias()), &[1, 2]);
         for check in ["bias full check", "bias challenge check"] {
             assert_eq!(answer_shown(&text, check).expect("an answer")[0], number, "{text}");
         }
@@ -337,7 +465,7 @@ fn missing_files_and_long_ones_are_named() {
 
 #[test]
 fn the_largest_ticket_is_shown_whole() {
-    let largest = plain([32, 64, 32, 8, 65_536, 2000, 14]);
+    let largest = plain([32, 64, 32, 8, 65_536, 2000, 14, 32_768]);
     let mut random = Random(3);
     for (terms, length, products) in [
         (largest, 49_152, 40_960),

@@ -5,18 +5,26 @@ use apart::{challenge_check, Setting};
 
 use crate::case::{Case, Entry};
 use crate::random::Random;
-use crate::sample::{accepted, caught, Sample, P};
+use crate::sample::{accepted, caught, refused, Sample, P};
 
 const TRUE: usize = 20;
 const FALSE: usize = 30;
 const DAMAGED: usize = 35;
+const OF_ANOTHER: usize = 25;
+
+/// Which rounding numbers the settings have.
+#[derive(Clone, Copy, Debug, PartialEq, Eq)]
+pub enum Rounding {
+    Zero,
+    Drawn,
+}
 
 /// All accepted.
-pub fn true_tickets() -> Vec<Case> {
+pub fn true_tickets(rounding: Rounding) -> Vec<Case> {
     let mut random = Random::new(1);
     (0..TRUE)
         .map(|k| {
-            let (sample, _) = draw(&mut random);
+            let (sample, _) = draw(&mut random, rounding);
             let case = sample.case(format!("true ticket {k} {:?}", sample.setting.numbers()));
             case.states(accepted(&sample.setting))
         })
@@ -25,11 +33,11 @@ pub fn true_tickets() -> Vec<Case> {
 
 /// One claim is changed, within its range: caught in its row by the first vector
 /// that is not 0 in its column. The change is less than 2^v·α, which is below p.
-pub fn false_tickets() -> Vec<Case> {
+pub fn false_tickets(rounding: Rounding) -> Vec<Case> {
     let mut random = Random::new(2);
     (0..FALSE)
         .map(|k| {
-            let (mut sample, mut parts) = draw(&mut random);
+            let (mut sample, mut parts) = draw(&mut random, rounding);
             let setting = sample.setting;
             let columns = setting.columns as usize;
             let changed = random.index(parts.quotients.len());
@@ -51,21 +59,24 @@ pub fn false_tickets() -> Vec<Case> {
         .collect()
 }
 
-/// Bytes changed, cut off or put in, in any of the files.
+/// Bytes changed, cut off or put in, in any of the files; in a setting file before
+/// o, which is 0.
 pub fn damaged_files() -> Vec<Case> {
     let mut random = Random::new(3);
     (0..DAMAGED)
         .map(|k| {
-            let (sample, _) = draw(&mut random);
+            let (sample, _) = draw(&mut random, Rounding::Zero);
             let mut case = sample.case(format!("damaged files {k} {:?}", sample.setting.numbers()));
             for _ in 0..=random.index(2) {
-                let entry = match random.index(4) {
-                    0 => &mut case.setting,
-                    1 | 2 => &mut case.ticket,
-                    _ => &mut case.challenge,
+                let (entry, kept) = match random.index(4) {
+                    0 => (&mut case.setting, 4),
+                    1 | 2 => (&mut case.ticket, 0),
+                    _ => (&mut case.challenge, 0),
                 };
                 if let Entry::Bytes(bytes) = entry {
+                    let end = bytes.split_off(bytes.len() - kept);
                     damage(&mut random, bytes);
+                    bytes.extend(end);
                 }
             }
             case
@@ -73,9 +84,77 @@ pub fn damaged_files() -> Vec<Case> {
         .collect()
 }
 
+/// True tickets of one drawn o under another.
+pub fn tickets_of_another() -> Vec<Case> {
+    let mut random = Random::new(4);
+    let mut cases = Vec::new();
+    while cases.len() < OF_ANOTHER {
+        let (sample, _) = draw(&mut random, Rounding::Drawn);
+        let rounding = draw_rounding(&mut random, sample.setting.scale);
+        if rounding != sample.setting.rounding {
+            cases.push(under_another(&mut random, sample, rounding));
+        }
+    }
+    cases
+}
+
+/// True tickets of a drawn o, of which each bit in its turn is changed.
+pub fn changed_bits() -> Vec<Case> {
+    let mut random = Random::new(5);
+    (0..u32::BITS)
+        .map(|bit| {
+            let (sample, _) = draw(&mut random, Rounding::Drawn);
+            let rounding = sample.setting.rounding ^ (1 << bit);
+            under_another(&mut random, sample, rounding)
+        })
+        .collect()
+}
+
+/// The ticket under another o, by which every claim is off by the same: caught in
+/// row 0 by the first vector whose numbers don't sum to 0, if that o is below α
+/// and the setting fits with it.
+fn under_another(random: &mut Random, mut sample: Sample, rounding: u32) -> Case {
+    let before = sample.setting.rounding;
+    let setting = Setting {
+        rounding,
+        ..sample.setting
+    };
+    sample.setting = setting;
+    // The first few vectors don't see it.
+    let columns = setting.columns as usize;
+    let unseen = random.index(setting.vectors as usize + 1);
+    for vector in sample.list.chunks_mut(columns).take(unseen) {
+        let (last, others) = vector.split_last_mut().expect("a column");
+        *last = (P - sum(others)) % P;
+    }
+    let seeing = sample.list.chunks(columns).position(|vector| sum(vector) != 0);
+    let line = if rounding >= setting.scale {
+        refused(19, 0)
+    } else if left_side(&setting) > u64::from(setting.scale) << (setting.width - 1) {
+        refused(3, 0)
+    } else if let Some(t) = seeing {
+        caught(&setting, t as u32, 0)
+    } else {
+        accepted(&setting)
+    };
+    let case = sample.case(format!("the ticket of o = {before} under {:?}", setting.numbers()));
+    case.states(line)
+}
+
+/// m·T² + o + α - 1.
+fn left_side(setting: &Setting) -> u64 {
+    let [m, bound, rounding, scale] = [setting.inner, setting.bound, setting.rounding, setting.scale].map(u64::from);
+    m * bound * bound + rounding + scale - 1
+}
+
+/// The sum of these numbers modulo p.
+fn sum(numbers: &[u32]) -> u32 {
+    numbers.iter().fold(0, |sum, &number| apart::add(sum, number))
+}
+
 /// A true ticket of drawn operands and a drawn list.
-fn draw(random: &mut Random) -> (Sample, Parts) {
-    let setting = draw_setting(random);
+fn draw(random: &mut Random, rounding: Rounding) -> (Sample, Parts) {
+    let setting = draw_setting(random, rounding);
     let [l, m, n] = [setting.rows, setting.inner, setting.columns];
     let bound = i64::from(setting.bound);
     let mut entries = |count: u32| -> Vec<i64> {
@@ -98,8 +177,9 @@ fn draw(random: &mut Random) -> (Sample, Parts) {
     (sample, parts)
 }
 
-/// Sizes up to 6 and, of the drawn scales, bounds and widths, some that fit.
-fn draw_setting(random: &mut Random) -> Setting {
+/// Sizes up to 6 and, of the drawn scales, bounds, widths and rounding numbers,
+/// some that fit.
+fn draw_setting(random: &mut Random, rounding: Rounding) -> Setting {
     loop {
         // Small ones are as likely as large ones.
         let mut up_to = |bits: i64| {
@@ -108,12 +188,29 @@ fn draw_setting(random: &mut Random) -> Setting {
         };
         let (scale, bound) = (up_to(16), up_to(14));
         let mut size = |greatest| random.between(1, greatest) as u32;
-        let setting = Setting::from([size(6), size(6), size(6), size(4), scale, bound, size(29)]);
-        // Without a ticket 4 comes next.
-        if challenge_check(&setting, &[], &[]).number == 4 {
+        let numbers = [size(6), size(6), size(6), size(4), scale, bound, size(29), 0];
+        let mut setting = Setting::from(numbers);
+        if rounding == Rounding::Drawn {
+            setting.rounding = draw_rounding(random, scale);
+        }
+        if fits(&setting) {
             return setting;
         }
     }
+}
+
+/// Below the scale, which is above 0.
+fn draw_rounding(random: &mut Random, scale: u32) -> u32 {
+    match random.index(4) {
+        0 => scale / 2,
+        1 => scale - 1,
+        _ => random.between(0, i64::from(scale) - 1) as u32,
+    }
+}
+
+/// Without a ticket 4 comes next.
+fn fits(setting: &Setting) -> bool {
+    challenge_check(setting, &[], &[]).number == 4
 }
 
 fn draw_number(random: &mut Random) -> u32 {
@@ -165,29 +262,50 @@ mod tests {
     #[test]
     fn the_same_in_every_run() {
         let line = |case: Case| (case.description.clone(), case.expected());
-        let first: Vec<_> = damaged_files().into_iter().map(line).collect();
-        let second: Vec<_> = damaged_files().into_iter().map(line).collect();
-        assert_eq!(first, second);
+        for cases in [damaged_files, tickets_of_another, changed_bits] {
+            let first: Vec<_> = cases().into_iter().map(line).collect();
+            let second: Vec<_> = cases().into_iter().map(line).collect();
+            assert_eq!(first, second);
+        }
     }
 
     #[test]
     fn settings_are_of_every_size() {
         let mut random = Random::new(4);
-        let settings: Vec<Setting> = (0..200).map(|_| draw_setting(&mut random)).collect();
+        let settings: Vec<Setting> = (0..200).map(|_| draw_setting(&mut random, Rounding::Zero)).collect();
         for size in 1..=6 {
             assert!(settings.iter().any(|setting| setting.rows == size));
             assert!(settings.iter().any(|setting| setting.inner == size));
             assert!(settings.iter().any(|setting| setting.columns == size));
         }
         assert!((1..=4).all(|size| settings.iter().any(|setting| setting.vectors == size)));
+        assert!(settings.iter().all(|setting| setting.rounding == 0));
+    }
+
+    #[test]
+    fn rounding_numbers_of_every_kind() {
+        let mut random = Random::new(5);
+        let settings: Vec<Setting> = (0..TRUE).map(|_| draw_setting(&mut random, Rounding::Drawn)).collect();
+        let any = |kind: fn(&Setting) -> bool| settings.iter().any(kind);
+        assert!(any(|setting| setting.rounding == setting.scale / 2));
+        assert!(any(|setting| setting.rounding == setting.scale - 1));
+        assert!(any(|setting| setting.rounding > 255));
+        assert!(any(|setting| (1..setting.scale / 2).contains(&setting.rounding)));
     }
 
     #[test]
     fn false_tickets_are_caught_or_not() {
-        let lines: Vec<String> = false_tickets().iter().map(Case::expected).collect();
-        assert!(lines.iter().any(|line| line.starts_with("0 ")));
-        assert!(lines.iter().any(|line| line.starts_with("12 0 ")));
-        assert!(lines.iter().any(|line| line.starts_with("12 2 ")));
+        for cases in [
+            false_tickets(Rounding::Zero),
+            false_tickets(Rounding::Drawn),
+            tickets_of_another(),
+            changed_bits(),
+        ] {
+            let lines: Vec<String> = cases.iter().map(Case::expected).collect();
+            assert!(lines.iter().any(|line| line.starts_with("0 ")));
+            assert!(lines.iter().any(|line| line.starts_with("12 0 ")));
+            assert!(lines.iter().any(|line| line.starts_with("12 2 ")));
+        }
     }
 
     #[test]

@@ -18,7 +18,7 @@ pub fn cases() -> Vec<Case> {
 /// One vector takes 2,048 + 1,024 + 2,048 = 5,120 products.
 fn accepted() -> Vec<Case> {
     let largest = Sample::largest();
-    let (setting, parts) = largest_parts();
+    let (setting, parts) = largest_parts(0);
     let bound = i64::from(setting.bound);
     let all = |description: &str, a: i64, b: i64| {
         let parts = Parts::true_ones(&setting, &vec![a; parts.a.len()], &vec![b; parts.b.len()]);
@@ -38,7 +38,7 @@ fn accepted() -> Vec<Case> {
 /// One claim is untrue, and its column is 0 in each vector but one.
 fn caught() -> Vec<Case> {
     let untrue = |description: &str, row: usize, column: usize, vector: usize| {
-        let (setting, mut parts) = largest_parts();
+        let (setting, mut parts) = largest_parts(0);
         parts.remainders[row * COLUMNS + column] ^= 1;
         let mut list = Sample::largest().list;
         for t in 0..VECTORS {

@@ -17,7 +17,7 @@ pub fn cases() -> Vec<Case> {
     ];
     cases.extend(each("2^30", [1 << 30; 3]));
     // Whoever reads to the end of it all needs longer.
-    let right_modulo = [(1 << 32) + 16, (1 << 32) + 128, (1 << 32) + 8];
+    let right_modulo = [(1 << 32) + 20, (1 << 32) + 128, (1 << 32) + 8];
     cases.extend(each("2^32 and a few", right_modulo).map(|case| case.time(4 * TIME)));
     cases.push(all().time(3 * TIME));
     let limited = cases.into_iter().map(|case| case.memory(Memory::Limited));

@@ -10,7 +10,7 @@ use crate::case::{Case, Entry};
 use crate::sample::{setting_bytes, Sample, P};
 
 /// The files of case c, byte by byte.
-const SETTING: [u8; 16] = [2, 2, 2, 1, 10, 0, 0, 0, 8, 0, 0, 0, 5, 0, 0, 0];
+const SETTING: [u8; 20] = [2, 2, 2, 1, 10, 0, 0, 0, 8, 0, 0, 0, 5, 0, 0, 0, 0, 0, 0, 0];
 
 const CHALLENGE: [u8; 8] = [1, 0, 0, 0, 2, 0, 0, 0];
 

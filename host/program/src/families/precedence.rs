@@ -26,7 +26,7 @@ fn fault(name: &'static str, bytes: Vec<u8>, line: &'static str) -> Fault {
 fn settings() -> Vec<Fault> {
     let of = |setting: Setting| setting_bytes(&setting);
     vec![
-        fault("setting of 17 bytes", cycle(&of(K), 17), "1 0 0 0"),
+        fault("setting of 21 bytes", cycle(&of(K), 21), "1 0 0 0"),
         fault("n = 33", of(Setting { columns: 33, ..K }), "1 0 0 0"),
         fault("α = 1", of(Setting { scale: 1, ..K }), "2 0 0 0"),
         fault("v = 4", of(Setting { width: 4, ..K }), "3 0 0 0"),
@@ -130,7 +130,7 @@ fn within_a_setting() -> Vec<Case> {
         case("v = 0", Setting { width: 0, ..K }).states("2 0 0 0"),
         case(
             "α, T and v at 2^32 - 1",
-            Setting::from([2, 2, 2, 1, u32::MAX, u32::MAX, u32::MAX]),
+            Setting::from([2, 2, 2, 1, u32::MAX, u32::MAX, u32::MAX, 0]),
         )
         .states("2 0 0 0"),
     ]

@@ -1,6 +1,6 @@
-//! The numbers of the setting: each at its limits and beyond, four bytes of the
-//! larger ones, and the edge of fitting. The other files are those of case c,
-//! unless the setting calls for others.
+//! The numbers of the setting but o, which is 0: each at its limits and beyond,
+//! four bytes of the larger ones, and the edge of fitting. The other files are
+//! those of case c, unless the setting calls for others.
 
 use apart::examples::K;
 use apart::{true_ticket, Setting};
@@ -12,7 +12,7 @@ pub fn cases() -> Vec<Case> {
     [sizes(), others(), bytes(), fitting(), largest_entries()].concat()
 }
 
-/// The index of each number in ℓ, m, n, s, α, T, v.
+/// The index of each number in ℓ, m, n, s, α, T, v, o.
 const ROWS: usize = 0;
 const INNER: usize = 1;
 const COLUMNS: usize = 2;
@@ -87,7 +87,7 @@ fn bytes() -> Vec<Case> {
     cases
 }
 
-/// "m·T² + α - 1 ≤ 2^(v-1)·α and 2^v·α < p."
+/// "m·T² + α - 1 ≤ 2^(v-1)·α and 2^v·α < p", as o is 0.
 fn fitting() -> Vec<Case> {
     vec![
         // For v = 2 the first condition is m·T² - 1 ≤ α, here 127 ≤ α. Record 8
@@ -113,8 +113,8 @@ fn fitting() -> Vec<Case> {
 /// True tickets of one row, one entry and one column: 32,767² + 32,766 is one
 /// below 2^15·32,767; S is 1, 0 or -1 under the narrowest quotients.
 fn largest_entries() -> Vec<Case> {
-    let greatest = Setting::from([1, 1, 1, 1, 32_767, 32_767, 16]);
-    let narrowest = Setting::from([1, 1, 1, 1, 2, 1, 1]);
+    let greatest = Setting::from([1, 1, 1, 1, 32_767, 32_767, 16, 0]);
+    let narrowest = Setting::from([1, 1, 1, 1, 2, 1, 1, 0]);
     let operands = [
         (greatest, 32_767, 32_767),
         (greatest, -32_767, 32_767),

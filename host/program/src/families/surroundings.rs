@@ -25,7 +25,7 @@ fn others() -> Vec<Case> {
         c.case("hidden and kept files with other contents")
             .beside(".setting.rec", &[])
             .beside(".ticket.rec", &[0; 128])
-            .beside("setting.rec~", &[255; 16])
+            .beside("setting.rec~", &[255; 20])
             .beside("ticket.rec.bak", &c.with_value(0, P))
             .beside("challenge.rec.1", &challenge_file(&[1, P]))
             .beside("Ticket.rec", &[])

@@ -15,9 +15,9 @@ fn all_cases() -> impl Iterator<Item = &'static Case> {
 }
 
 #[test]
-fn at_least_400_folders_and_at_most_600() {
+fn at_least_700_folders_and_at_most_900() {
     let count = all_cases().count();
-    assert!((400..=600).contains(&count), "{count}");
+    assert!((700..=900).contains(&count), "{count}");
 }
 
 #[test]
@@ -30,9 +30,9 @@ fn stated_answers_are_those_written_apart() {
 }
 
 #[test]
-fn every_number_from_0_to_12() {
+fn every_number_from_0_to_12_and_19() {
     let lines: Vec<String> = all_cases().map(Case::expected).collect();
-    for number in 0..=12 {
+    for number in (0..=12).chain([19]) {
         let begin = format!("{number} ");
         assert!(
             lines.iter().filter(|line| line.starts_with(&begin)).count() >= 5,

@@ -59,14 +59,135 @@ fn lengths_of_the_setting() {
             right(&reader(setting), ticket, challenge)
         })
     };
-    // The first 16 bytes count.
-    assert!(found(|setting| cut(setting, 16).to_vec()));
+    // The first 20 bytes count.
+    assert!(found(|setting| cut(setting, 20).to_vec()));
     // Missing bytes are 0.
     assert!(found(|setting| {
         let mut setting = setting.to_vec();
-        setting.resize(setting.len().max(16), 0);
+        setting.resize(setting.len().max(20), 0);
         setting
     }));
+    // 16 bytes are a setting without o.
+    assert!(found(|setting| match setting.len() {
+        16 => [setting, &[0; 4]].concat(),
+        _ => setting.to_vec(),
+    }));
+}
+
+#[test]
+fn the_bytes_of_the_rounding_number() {
+    let found_in = |family: &str, reader: &dyn Fn(&mut [u8])| {
+        is_found(family, |setting, ticket, challenge| {
+            let mut setting = setting.to_vec();
+            if setting.len() == 20 {
+                reader(&mut setting);
+            }
+            right(&setting, ticket, challenge)
+        })
+    };
+    let found = |reader: &dyn Fn(&mut [u8])| found_in("rounding numbers", reader);
+    // One byte of it is not read.
+    for place in 16..20 {
+        for family in ["rounding numbers", "rounding numbers with a bit changed, drawn"] {
+            assert!(found_in(family, &|setting| setting[place] = 0), "{family}, {place}");
+        }
+    }
+    // Its bytes are in the other order.
+    assert!(found(&|setting| setting[16..].reverse()));
+    // It changes places with α, T or v.
+    for place in [4, 8, 12] {
+        assert!(
+            found(&|setting| {
+                let (numbers, rounding) = setting.split_at_mut(16);
+                numbers[place..place + 4].swap_with_slice(rounding);
+            }),
+            "{place}"
+        );
+    }
+    // It stands before α, T and v, or before the sizes.
+    assert!(found(&|setting| setting[4..].rotate_left(4)));
+    assert!(found(&|setting| setting.rotate_left(4)));
+}
+
+/// o and α of a setting file of the right length.
+fn rounding_and_scale(setting: &[u8]) -> Option<[u32; 2]> {
+    let setting: &[u8; 20] = setting.try_into().ok()?;
+    let &[_, scale, _, _, rounding] = setting.as_chunks().0 else {
+        return None;
+    };
+    Some([rounding, scale].map(u32::from_le_bytes))
+}
+
+/// What is right if o is 0.
+fn without_rounding(setting: &[u8], ticket: &[u8], challenge: &[u8]) -> String {
+    let mut setting = setting.to_vec();
+    if setting.len() == 20 {
+        setting[16..].fill(0);
+    }
+    right(&setting, ticket, challenge)
+}
+
+#[test]
+fn the_test_of_the_rounding_number() {
+    let family = "rounding numbers";
+    // It passes where it is α.
+    assert!(is_found(family, |setting, ticket, challenge| {
+        match rounding_and_scale(setting) {
+            Some([rounding, scale]) if rounding == scale => without_rounding(setting, ticket, challenge),
+            _ => right(setting, ticket, challenge),
+        }
+    }));
+    // 19 comes after 3 or 4.
+    for early in ["3 0 0 0\n", "4 0 0 0\n"] {
+        assert!(is_found(family, |setting, ticket, challenge| {
+            let line = without_rounding(setting, ticket, challenge);
+            if line == early {
+                line
+            } else {
+                right(setting, ticket, challenge)
+            }
+        }));
+    }
+    // It comes before 2 or 1.
+    for late in ["2 0 0 0\n", "1 0 0 0\n"] {
+        assert!(is_found(family, |setting, ticket, challenge| {
+            let line = right(setting, ticket, challenge);
+            match rounding_and_scale(setting) {
+                Some([rounding, scale]) if line == late && rounding >= scale => "19 0 0 0\n".to_owned(),
+                _ => line,
+            }
+        }));
+    }
+}
+
+#[test]
+fn a_rounding_number_that_is_left_out() {
+    // Of fitting.
+    assert!(is_found("rounding numbers", |setting, ticket, challenge| {
+        let line = right(setting, ticket, challenge);
+        if line == "3 0 0 0\n" {
+            without_rounding(setting, ticket, challenge)
+        } else {
+            line
+        }
+    }));
+    // Of the claims.
+    for family in [
+        "rounded tickets",
+        "rounded true tickets drawn",
+        "rounded false tickets drawn",
+        "rounded tickets of another number drawn",
+    ] {
+        let is_found = is_found(family, |setting, ticket, challenge| {
+            let line = right(setting, ticket, challenge);
+            if line == "3 0 0 0\n" || line == "19 0 0 0\n" {
+                line
+            } else {
+                without_rounding(setting, ticket, challenge)
+            }
+        });
+        assert!(is_found, "{family}");
+    }
 }
 
 #[test]
