@@ -161,9 +161,9 @@ static void describe(int call, const lent *given)
 
     for (k = 0; k < CALL[call].count; k++)
         end += sprintf(doing + end, "%s%s", k > 0 ? ", " : "", given[k].what);
-    sprintf(doing + end, ") under l = %u, n = %u, a = %u, v = %u, W = %u", (unsigned)setting.setting.rows,
+    sprintf(doing + end, ") under l = %u, n = %u, a = %u, v = %u, o = %u, W = %u", (unsigned)setting.setting.rows,
             (unsigned)setting.setting.columns, (unsigned)setting.setting.scale, (unsigned)setting.setting.width,
-            (unsigned)setting.bias_bound);
+            (unsigned)setting.setting.rounding, (unsigned)setting.bias_bound);
 }
 
 static dikdumar_answer check(int call, const lent *given)
@@ -350,15 +350,17 @@ static void expect_all(void)
 
 int main(void)
 {
-    const dikdumar_bias_setting k = {{2, 2, 2, 1, 10, 8, 5}, 23}, smallest = {{1, 1, 1, 1, 2, 1, 2}, 1},
-                                largest = {{32, 64, 32, 8, 65536, 2000, 14}, 1000};
-    /* K with a number outside its limits, twice, K unfit, and W beyond its limit,
-     * which the plain calls don't have: the answers 1, 2, 3 and 17. */
-    const dikdumar_bias_setting refused[] = {{{2, 2, 33, 1, 10, 8, 5}, 23},
-                                             {{2, 2, 2, 1, 1, 8, 5}, 23},
-                                             {{2, 2, 2, 1, 10, 8, 4}, 23},
-                                             {{2, 2, 2, 1, 10, 8, 5}, 1073741825}};
-    const uint32_t numbers[] = {1, 2, 3, 17};
+    const dikdumar_bias_setting k = {{2, 2, 2, 1, 10, 8, 5, 0}, 23}, smallest = {{1, 1, 1, 1, 2, 1, 2, 1}, 1},
+                                largest = {{32, 64, 32, 8, 65536, 2000, 14, 32768}, 1000};
+    /* K with a number outside its limits, twice, with o of the scale, K unfit, and W
+     * beyond its limit, which the plain calls don't have: the answers 1, 2, 19, 3 and
+     * 17. */
+    const dikdumar_bias_setting refused[] = {{{2, 2, 33, 1, 10, 8, 5, 0}, 23},
+                                             {{2, 2, 2, 1, 1, 8, 5, 0}, 23},
+                                             {{2, 2, 2, 1, 10, 8, 5, 10}, 23},
+                                             {{2, 2, 2, 1, 10, 8, 4, 0}, 23},
+                                             {{2, 2, 2, 1, 10, 8, 5, 0}, 1073741825}};
+    const uint32_t numbers[] = {1, 2, 19, 3, 17};
     char what[200];
     int call, set, r;
 
@@ -372,7 +374,7 @@ int main(void)
     prepare(k, k);
     compare_all();
     expect_all();
-    for (r = 0; r < 4; r++) {
+    for (r = 0; r < 5; r++) {
         prepare(refused[r], k);
         compare_all();
         for (call = numbers[r] == 17 ? BIAS_CHALLENGE : CHALLENGE; call < CALLS; call++)

@@ -32,9 +32,9 @@
 
 /* The version of this interface, for a program to test. */
 #ifndef DIKDUMAR_VERSION
-#define DIKDUMAR_VERSION "1.1.0"
-#define DIKDUMAR_VERSION_MAJOR 1
-#define DIKDUMAR_VERSION_MINOR 1
+#define DIKDUMAR_VERSION "2.0.0"
+#define DIKDUMAR_VERSION_MAJOR 2
+#define DIKDUMAR_VERSION_MINOR 0
 #define DIKDUMAR_VERSION_PATCH 0
 #endif
 
@@ -72,19 +72,23 @@ uint32_t dikdumar_power_of_two(uint32_t k);
 
 /*
  * The public numbers of a check. They come from the caller, never from the
- * ticket. Below, l, m, n, s, a, T and v stand for them in this order.
+ * ticket. Below, l, m, n, s, a, T, v and o stand for them in this order.
  *
- * A setting fits when m*T^2 + a - 1 <= 2^(v-1)*a and 2^v*a < p. Any v that fits
- * is taken, not only the smallest.
+ * A sum has o added to it and is then divided by the scale, rounded down. So a
+ * rounding of 0 rounds down, and one of scale/2 to the nearest, halves up: over
+ * 10 with o = 5, 24 gives 2, 25 gives 3 and -25 gives -2.
+ *
+ * A setting fits when m*T^2 + o + a - 1 <= 2^(v-1)*a and 2^v*a < p. Any v that
+ * fits is taken, not only the smallest.
  */
 typedef struct {
-    uint32_t rows;    /* l, rows of A: 1 to 32 */
-    uint32_t inner;   /* m, columns of A and rows of B: 1 to 64 */
-    uint32_t columns; /* n, columns of B: 1 to 32 */
-    uint32_t vectors; /* s, challenge vectors: 1 to 8 */
-    uint32_t scale;   /* a, by which sums are divided: 2 to 65536 */
-    uint32_t bound;   /* T, entries of A and B are from -T to T: 1 to 32767 */
-    uint32_t width;   /* v, quotients are from -2^(v-1) to 2^(v-1) - 1: 1 to 30 */
+    uint32_t rows;     /* l, rows of A: 1 to 32 */
+    uint32_t inner;    /* m, columns of A and rows of B: 1 to 64 */
+    uint32_t columns;  /* n, columns of B: 1 to 32 */
+    uint32_t vectors;  /* s, challenge vectors: 1 to 8 */
+    uint32_t scale;    /* a, by which sums are divided: 2 to 65536 */
+    uint32_t bound;    /* T, entries of A and B are from -T to T: 1 to 32767 */
+    uint32_t width;    /* v, quotients are from -2^(v-1) to 2^(v-1) - 1: 1 to 30 */
     uint32_t rounding; /* o, added to a sum before it is divided: 0 to a - 1 */
 } dikdumar_setting;
 
@@ -93,7 +97,7 @@ typedef struct {
  * is accepted, or written, where number is 0 and only there.
  */
 typedef struct {
-    uint32_t number;   /* what was found, 0 to 18 */
+    uint32_t number;   /* what was found, 0 to 19 */
     uint32_t place;    /* where, by the number; the length of a written ticket */
     uint32_t row;      /* the row that was caught, from 0, else 0 */
     uint32_t products; /* the products counted, else 0 */
@@ -110,10 +114,10 @@ typedef struct {
  *     byte 2, 3   row, column, from 0
  *     byte 4-7    value: a least residue, little-endian
  *
- * The claim at row i, column j is true when a*q + r is the exact sum of
+ * The claim at row i, column j is true when a*q + r - o is the exact sum of
  * A(i,k)*B(k,j) over all k. The list holds s vectors of n least residues, one
  * vector after another. For each vector X, B times X is worked out once, and
- * then for each row both sides are compared modulo p: the claims of the row
+ * then for each row both sides are compared modulo p: the a*q + r - o of the row
  * times X, and the row of A times that. A true ticket is accepted with every
  * such list. A false one passes only where its errors cancel, so the list is to
  * be drawn at random once the ticket is fixed.
@@ -132,8 +136,9 @@ typedef struct {
  *       10    list's length not s*n                      0
  *       11    list number of p or more                   index in the list
  *       12    caught: the two sides of a row differ      vector t
+ *       19    o not below a                              0
  *
- * The first test that fails decides: 1 to 4 in order, then record after record
+ * The first test that fails decides: 1, 2, 19, 3 and 4, then record after record
  * each by 5, 6 and its own range, then 10, 11 and 12. Records are counted from 0
  * over the whole ticket. Row and products are 0 except in these answers:
  *
@@ -149,9 +154,9 @@ dikdumar_answer dikdumar_challenge_check(dikdumar_setting setting,
  * Checks every claim of a ticket, row by row, with no list.
  *
  * The ticket is read as by the challenge check. Then each exact sum of
- * A(i,k)*B(k,j) over all k is made and compared with a*q + r. It accepts the
- * true tickets and no other: each quotient is the floor of its sum over the
- * scale (rounded down, also below zero), and each remainder what is left.
+ * A(i,k)*B(k,j) over all k is made and compared with a*q + r - o. It accepts the
+ * true tickets and no other: each quotient is the floor of its sum plus o over
+ * the scale (rounded down, also below zero), and each remainder what is left.
  *
  *     number  meaning                                    place
  *        0    accepted                                   0
@@ -165,10 +170,11 @@ dikdumar_answer dikdumar_challenge_check(dikdumar_setting setting,
  *        8    quotient not from -2^(v-1) to 2^(v-1) - 1  record
  *        9    remainder of a or more                     record
  *       16    untrue claim, at row i, column j           i*n + j
+ *       19    o not below a                              0
  *
- * The first test that fails decides: 1 to 9 as in the challenge check, then 16,
- * row by row. s is tested with the rest of the setting, and not used. Row and
- * products are 0 except in these answers:
+ * The first test that fails decides: 1, 2, 19, 3 to 9 as in the challenge check,
+ * then 16, row by row. s is tested with the rest of the setting, and not used.
+ * Row and products are 0 except in these answers:
  *
  *     number  row  products
  *        0    0    l*m*n
@@ -183,9 +189,9 @@ dikdumar_answer dikdumar_full_check(dikdumar_setting setting,
  * A (l by m) and B (m by n) are handed in as signed numbers, row by row, and may
  * hold any of the 2^32. The ticket is written to the beginning of the output, in
  * the records described above: A, B, the quotients and the remainders. Each
- * quotient is the floor of its sum over the scale (rounded down, also below
- * zero), each remainder what is left. The full check accepts the ticket, and the
- * challenge check does with every list of s*n least residues.
+ * quotient is the floor of its sum plus o over the scale (rounded down, also
+ * below zero), each remainder what is left. The full check accepts the ticket,
+ * and the challenge check does with every list of s*n least residues.
  *
  *     number  meaning                                    place
  *        0    written                                    8*(l*m + m*n + 2*l*n)
@@ -195,13 +201,14 @@ dikdumar_answer dikdumar_full_check(dikdumar_setting setting,
  *       13    length of A not l*m, or of B not m*n       0 for A, 1 for B
  *       14    number of A or B below -T or above T       index in A, then B
  *       15    output shorter than the ticket             0
+ *       19    o not below a                              0
  *
  * The place of 0 is the ticket's length in bytes. The index of a number of B is
  * counted on from A: the first is l*m.
  *
- * The first test that fails decides: 1, 2, 3, 13 for A, 13 for B, 14 from the
- * first number on, 15. s is tested with the rest of the setting, and not used.
- * Row and products are 0 except in this answer:
+ * The first test that fails decides: 1, 2, 19, 3, 13 for A, 13 for B, 14 from
+ * the first number on, 15. s is tested with the rest of the setting, and not
+ * used. Row and products are 0 except in this answer:
  *
  *     number  row  products
  *        0    0    l*m*n
@@ -220,11 +227,11 @@ dikdumar_answer dikdumar_write_ticket(dikdumar_setting setting,
  * The public numbers of a check of bias tickets: a setting, whose letters stand
  * for its numbers as above, and the bound of the bias, W.
  *
- * It fits when m*T^2 + W + a - 1 <= 2^(v-1)*a and 2^v*a < p. Any v that fits is
- * taken, not only the smallest.
+ * It fits when m*T^2 + W + o + a - 1 <= 2^(v-1)*a and 2^v*a < p. Any v that fits
+ * is taken, not only the smallest.
  */
 typedef struct {
-    dikdumar_setting setting; /* l, m, n, s, a, T and v, within the limits above */
+    dikdumar_setting setting; /* l, m, n, s, a, T, v and o, within the limits above */
     uint32_t bias_bound;      /* W, entries of the bias are from -W to W: 0 to 2^30 */
 } dikdumar_bias_setting;
 
@@ -235,14 +242,14 @@ typedef struct {
  * and remainders r (both l by n) in this order, each row by row, in the records
  * of a ticket, with kind 5 for an entry of the bias.
  *
- * The claim at row i, column j is true when a*q + r is the exact sum of
+ * The claim at row i, column j is true when a*q + r - o is the exact sum of
  * A(i,k)*B(k,j) over all k, plus c(i,j). The list holds s vectors of n least
  * residues, one vector after another. For each vector X, B times X is worked out
- * once, and then for each row both sides are compared modulo p: the claims of
- * the row times X, and the row of A times that plus the row of the bias times X.
- * A true ticket is accepted with every such list. A false one passes only where
- * its errors cancel, so the list is to be drawn at random once the ticket is
- * fixed.
+ * once, and then for each row both sides are compared modulo p: the a*q + r - o
+ * of the row times X, and the row of A times that plus the row of the bias times
+ * X. A true ticket is accepted with every such list. A false one passes only
+ * where its errors cancel, so the list is to be drawn at random once the ticket
+ * is fixed.
  *
  *     number  meaning                                    place
  *        0    accepted                                   0
@@ -260,8 +267,9 @@ typedef struct {
  *       12    caught: the two sides of a row differ      vector t
  *       17    W above 2^30                               0
  *       18    bias entry below -W or above W             record
+ *       19    o not below a                              0
  *
- * The first test that fails decides: 1, 2, 17, 3 and 4, then record after
+ * The first test that fails decides: 1, 2, 17, 19, 3 and 4, then record after
  * record each by 5, 6 and its own range (7, 18, 8 or 9), then 10, 11 and 12.
  * Records are counted from 0 over the whole ticket. Row and products are 0
  * except in these answers:
@@ -279,9 +287,9 @@ dikdumar_answer dikdumar_bias_challenge_check(dikdumar_bias_setting setting,
  *
  * The ticket is read as by the challenge check of bias tickets. Then each exact
  * sum of A(i,k)*B(k,j) over all k, plus c(i,j), is made and compared with
- * a*q + r. It accepts the true bias tickets and no other: each quotient is the
- * floor of its sum plus bias over the scale (rounded down, also below zero), and
- * each remainder what is left.
+ * a*q + r - o. It accepts the true bias tickets and no other: each quotient is
+ * the floor of its sum plus bias plus o over the scale (rounded down, also below
+ * zero), and each remainder what is left.
  *
  *     number  meaning                                    place
  *        0    accepted                                   0
@@ -297,9 +305,10 @@ dikdumar_answer dikdumar_bias_challenge_check(dikdumar_bias_setting setting,
  *       16    untrue claim, at row i, column j           i*n + j
  *       17    W above 2^30                               0
  *       18    bias entry below -W or above W             record
+ *       19    o not below a                              0
  *
- * The first test that fails decides: 1 to 9, 17 and 18 in the order of the
- * challenge check of bias tickets, then 16, row by row. s is tested with the
+ * The first test that fails decides: 1, 2, 17, 19, 3 to 9 and 18 in the order of
+ * the challenge check of bias tickets, then 16, row by row. s is tested with the
  * rest of the setting, and not used. Row and products are 0 except in these
  * answers:
  *
@@ -316,10 +325,10 @@ dikdumar_answer dikdumar_bias_full_check(dikdumar_bias_setting setting,
  * A (l by m), B (m by n) and the bias (l by n) are handed in as signed numbers,
  * row by row, and may hold any of the 2^32. The ticket is written to the
  * beginning of the output: A, B, the bias, the quotients and the remainders.
- * Each quotient is the floor of its sum plus bias over the scale (rounded down,
- * also below zero), each remainder what is left. The full check of bias tickets
- * accepts the ticket, and their challenge check does with every list of s*n
- * least residues.
+ * Each quotient is the floor of its sum plus bias plus o over the scale (rounded
+ * down, also below zero), each remainder what is left. The full check of bias
+ * tickets accepts the ticket, and their challenge check does with every list of
+ * s*n least residues.
  *
  *     number  meaning                                                    place
  *        0    written                                                    8*(l*m + m*n + 3*l*n)
@@ -331,15 +340,16 @@ dikdumar_answer dikdumar_bias_full_check(dikdumar_bias_setting setting,
  *       15    output shorter than the ticket                             0
  *       17    W above 2^30                                               0
  *       18    number of the bias below -W or above W                     index after A and B
+ *       19    o not below a                                              0
  *
  * The place of 0 is the ticket's length in bytes. The indices are counted on
  * from A into B, and from B into the bias: the first of B is l*m, the first of
  * the bias l*m + m*n.
  *
- * The first test that fails decides: 1, 2, 17, 3, 13 for A, 13 for B, 13 for
- * the bias, 14 from the first number of A on, 18 from the first of the bias on,
- * 15. s is tested with the rest of the setting, and not used. Row and products
- * are 0 except in this answer:
+ * The first test that fails decides: 1, 2, 17, 19, 3, 13 for A, 13 for B, 13
+ * for the bias, 14 from the first number of A on, 18 from the first of the bias
+ * on, 15. s is tested with the rest of the setting, and not used. Row and
+ * products are 0 except in this answer:
  *
  *     number  row  products
  *        0    0    l*m*n

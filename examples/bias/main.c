@@ -16,8 +16,8 @@ enum { TICKET = RECORD * (ROWS * INNER + INNER * COLUMNS + 3 * ROWS * COLUMNS) }
 /* The records of the first and the last entry of the bias: A and B come before. */
 enum { FIRST_BIAS = ROWS * INNER + INNER * COLUMNS, LAST_BIAS = FIRST_BIAS + ROWS * COLUMNS - 1 };
 
-/* rows, inner, columns, vectors, scale, bound, width; bias_bound */
-static const dikdumar_bias_setting SETTING = {{ROWS, INNER, COLUMNS, 1, 10, 8, 5}, 23};
+/* rows, inner, columns, vectors, scale, bound, width, rounding; bias_bound */
+static const dikdumar_bias_setting SETTING = {{ROWS, INNER, COLUMNS, 1, 10, 8, 5, 0}, 23};
 
 static void print_record(const uint8_t *ticket, int record)
 {
@@ -70,7 +70,7 @@ static void act(dikdumar_answer answer)
         printf("  hold the pallet and ask for the ticket again: record %lu is refused\n", place);
         break;
     default:
-        /* The setting (1, 2, 17, 3) or the list (10, 11), which are this program's own. */
+        /* The setting (1, 2, 17, 19, 3) or the list (10, 11), which are this program's own. */
         printf("  hold the pallet and stop the line: the controller is wrong\n");
         break;
     }

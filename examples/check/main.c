@@ -14,8 +14,8 @@
 enum { ROWS = 2, INNER = 2, COLUMNS = 2, RECORD = 8 };
 enum { TICKET = RECORD * (ROWS * INNER + INNER * COLUMNS + 2 * ROWS * COLUMNS) };
 
-/* rows, inner, columns, vectors, scale, bound, width */
-static const dikdumar_setting SETTING = {ROWS, INNER, COLUMNS, 1, 10, 8, 5};
+/* rows, inner, columns, vectors, scale, bound, width, rounding */
+static const dikdumar_setting SETTING = {ROWS, INNER, COLUMNS, 1, 10, 8, 5, 0};
 
 /* A times B is (-17, 34), (23, -2); the claims are these sums over 10, rounded
  * down, and what is left. */
@@ -70,7 +70,7 @@ static void act(dikdumar_answer answer)
         printf("  hold the pallet and ask for the ticket again: record %lu is refused\n", place);
         break;
     default:
-        /* The setting (1, 2, 3) or the list (10, 11), which are this program's own. */
+        /* The setting (1, 2, 19, 3) or the list (10, 11), which are this program's own. */
         printf("  hold the pallet and stop the line: the controller is wrong\n");
         break;
     }

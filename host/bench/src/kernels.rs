@@ -187,8 +187,8 @@ unsafe fn spread(limbs: Vector) -> [Limbs; 2] {
 }
 
 /// Rows: whether for a vector x and u, its product with B, the claims' side is
-/// A's in every row. A comes as `by_rows` gives it; the claims are those of the
-/// ticket with `lift` added to each.
+/// A's in every row. A comes as `by_rows` gives it; the claims are αq + r of the
+/// ticket with α·2^(v-1) added, and the lift is that of the setting.
 #[inline(never)]
 pub fn rows(a: &[Vector], claims: &[u32], lift: u32, x: &[u32], u: &[Limbs]) -> bool {
     // What the lift makes too much.
@@ -214,6 +214,12 @@ pub fn rows(a: &[Vector], claims: &[u32], lift: u32, x: &[u32], u: &[Limbs]) -> 
         }
     }
     equal
+}
+
+/// By how much the claims of a true ticket are above their sums: by o, and by
+/// α·2^(v-1), so that none is negative.
+pub fn lift(setting: Setting) -> u32 {
+    (setting.scale << (setting.width - 1)) + setting.rounding
 }
 
 /// The entries of a matrix as `rows` takes them: four rows and two columns in a

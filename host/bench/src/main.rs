@@ -121,6 +121,7 @@ impl Input {
             scale: 1000,
             bound: 1000,
             width: 18,
+            rounding: 0,
         };
         // Weyl's sequence spreads over the range well enough for timing.
         let spread = |index: u32| index.wrapping_add(1).wrapping_mul(0x9e37_79b9);
@@ -496,11 +497,12 @@ impl Kernels {
         let b_records = kernels::parts(setting, ticket)[1];
         let [a, b] = [&input.a, &input.b].map(|matrix| matrix.iter().map(|&entry| entry as i16).collect::<Vec<_>>());
         let a_by_rows = kernels::by_rows(&a, inner);
-        let lift = setting.scale << (setting.width - 1);
+        let lift = kernels::lift(setting);
         let claims: Vec<u32> = input.sums.iter().map(|sum| lift.wrapping_add_signed(*sum)).collect();
-        let scale = setting.scale as i32;
-        let quotients: Vec<i32> = input.sums.iter().map(|sum| sum.div_euclid(scale)).collect();
-        let remainders: Vec<i32> = input.sums.iter().map(|sum| sum.rem_euclid(scale)).collect();
+        let [scale, rounding] = [setting.scale, setting.rounding].map(|number| number as i32);
+        let rounded = input.sums.iter().map(|sum| sum + rounding);
+        let quotients: Vec<i32> = rounded.clone().map(|sum| sum.div_euclid(scale)).collect();
+        let remainders: Vec<i32> = rounded.map(|sum| sum.rem_euclid(scale)).collect();
 
         let mut u = vec![[kernels::four_of(0); 2]; inner / 2];
         kernels::product(b_records, x, &mut u);

@@ -15,6 +15,7 @@ pub fn challenge_check(setting: Setting, ticket: &[u8], list: &[u32]) -> Answer 
         Err(refusal) => return refusal,
     };
     let scale = u64::from(setting.scale);
+    let rounding = u64::from(setting.rounding);
     let rows = setting.rows as usize;
     let inner = setting.inner as usize;
     let columns = setting.columns as usize;
@@ -35,7 +36,7 @@ pub fn challenge_check(setting: Setting, ticket: &[u8], list: &[u32]) -> Answer 
     let remainders = &values[rows * inner + inner * columns + rows * columns..];
     let mut claims = vec![0; rows * columns];
     for index in 0..claims.len() {
-        claims[index] = (scale * quotients[index] + remainders[index]) % P;
+        claims[index] = (scale * quotients[index] + remainders[index] + P - rounding) % P;
     }
 
     let mut u = vec![0; inner];
@@ -101,7 +102,8 @@ pub fn full_check(setting: Setting, ticket: &[u8]) -> Answer {
                 sum += a[i * inner + k] * b[k * columns + j];
             }
             let place = i * columns + j;
-            if i64::from(setting.scale) * quotients[place] + remainders[place] != sum {
+            let claim = i64::from(setting.scale) * quotients[place] + remainders[place] - i64::from(setting.rounding);
+            if claim != sum {
                 return Answer {
                     number: 16,
                     place: place as u32,
@@ -162,7 +164,7 @@ pub fn write_ticket(setting: Setting, a: &[i32], b: &[i32], output: &mut [u8]) -
     let scale = i64::from(setting.scale);
     for i in 0..rows {
         for j in 0..columns {
-            let mut sum = 0;
+            let mut sum = i64::from(setting.rounding);
             for k in 0..inner {
                 sum += i64::from(a[i * inner + k]) * i64::from(b[k * columns + j]);
             }
@@ -179,7 +181,7 @@ pub fn write_ticket(setting: Setting, a: &[i32], b: &[i32], output: &mut [u8]) -
     }
 }
 
-/// The number of the test of 1 to 3 that the setting does not pass.
+/// The number of the test of 1, 2, 19 and 3 that the setting does not pass.
 fn setting_refusal(setting: Setting) -> Option<u32> {
     if !within(setting.rows, 1, 32)
         || !within(setting.inner, 1, 64)
@@ -191,16 +193,20 @@ fn setting_refusal(setting: Setting) -> Option<u32> {
     if !within(setting.scale, 2, 65_536) || !within(setting.bound, 1, 32_767) || !within(setting.width, 1, 30) {
         return Some(2);
     }
+    if setting.rounding >= setting.scale {
+        return Some(19);
+    }
     let scale = u64::from(setting.scale);
     let bound = u64::from(setting.bound);
+    let greatest = u64::from(setting.inner) * bound * bound + u64::from(setting.rounding);
     let half = 1u64 << (setting.width - 1);
-    if u64::from(setting.inner) * bound * bound + scale - 1 > half * scale || 2 * half * scale >= P {
+    if greatest + scale - 1 > half * scale || 2 * half * scale >= P {
         return Some(3);
     }
     None
 }
 
-/// The values of the four parts, one after another, after the tests 1 to 9.
+/// The values of the four parts, one after another, after the tests before 10.
 fn read(setting: Setting, ticket: &[u8]) -> Result<Vec<u64>, Answer> {
     if let Some(number) = setting_refusal(setting) {
         return Err(refused(number, 0));

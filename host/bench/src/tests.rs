@@ -18,8 +18,9 @@ fn apart_setting(setting: Setting) -> apart::Setting {
         scale,
         bound,
         width,
+        rounding,
     } = setting;
-    [rows, inner, columns, vectors, scale, bound, width].into()
+    [rows, inner, columns, vectors, scale, bound, width, rounding].into()
 }
 
 /// The number of all programs' answer, which is that of the implementation apart.
@@ -107,14 +108,17 @@ impl Generator {
             if greatest == 0 || 2 * half * u64::from(scale) >= u64::from(P) {
                 continue;
             }
+            let bound = self.number(1, greatest);
+            let room = room - u64::from(inner * bound * bound);
             return Setting {
                 rows: step * self.number(1, size / step),
                 inner,
                 columns: step * self.number(1, size / step),
                 vectors: self.number(1, 8),
                 scale,
-                bound: self.number(1, greatest),
+                bound,
                 width,
+                rounding: self.number(0, room.min(u64::from(scale) - 1) as u32),
             };
         }
     }
@@ -241,18 +245,29 @@ fn all_agree_on_tickets() {
 fn all_agree_on_refusals() {
     let mut generator = Generator(2);
     let mut seen = BTreeSet::new();
-    // The example's setting with each number in turn at and beside every limit.
-    for limit in [1, 2, 8, 30, 32, 64, 32_767, 65_536] {
+    // The example's setting with each number in turn at and beside every limit, and
+    // 2·8² + o + 19 ≤ 8·20, which holds up to o = 13.
+    let k = apart::examples::K.numbers();
+    let mut settings = Vec::new();
+    for limit in [1, 2, 8, 10, 30, 32, 64, 32_767, 65_536] {
         for value in limit - 1..=limit + 1 {
-            for field in 0..7 {
-                let mut numbers = apart::examples::K.numbers();
+            for field in 0..8 {
+                let mut numbers = k;
                 numbers[field] = value;
-                let setting = Setting::from(numbers);
-                seen.insert(challenge_number(setting, &[], &[]));
-                seen.insert(full_number(setting, &[]));
-                seen.insert(writer_number(setting, &[], &[], 0));
+                settings.push(Setting::from(numbers));
             }
         }
+    }
+    settings.extend((12..=21).map(|rounding| Setting {
+        scale: 20,
+        width: 4,
+        rounding,
+        ..Setting::from(k)
+    }));
+    for setting in settings {
+        seen.insert(challenge_number(setting, &[], &[]));
+        seen.insert(full_number(setting, &[]));
+        seen.insert(writer_number(setting, &[], &[], 0));
     }
     for _ in 0..300 {
         let setting = generator.setting(1, 5);
@@ -276,7 +291,7 @@ fn all_agree_on_refusals() {
         a[place] = generator.choose(&[bound + 1, -bound - 1, 1 << 16, i32::MAX, i32::MIN]);
         seen.insert(writer_number(setting, &a, &b, ticket.len()));
     }
-    assert_eq!(seen, BTreeSet::from([0, 1, 2, 3, 4, 10, 13, 14, 15]));
+    assert_eq!(seen, BTreeSet::from([0, 1, 2, 3, 4, 10, 13, 14, 15, 19]));
 }
 
 fn narrow(matrix: &[i32]) -> Vec<i16> {
@@ -312,6 +327,18 @@ fn kernel_product(setting: Setting, ticket: &[u8], x: &[u32]) -> (Vec<kernels::L
     });
     let residues = residues.collect();
     (u, residues)
+}
+
+/// αq + r + α·2^(v-1) for each claim of a ticket, which is not negative.
+fn lifted_claims(setting: Setting, ticket: &[u8]) -> Vec<u32> {
+    let [_, _, quotients, remainders] = kernels::parts(setting, ticket);
+    let value = |record: &[u8]| u32::from_le_bytes(record[4..].try_into().unwrap());
+    let half = 1 << (setting.width - 1);
+    quotients
+        .chunks_exact(8)
+        .zip(remainders.chunks_exact(8))
+        .map(|(q, r)| setting.scale * ((value(q) + half) % P) + value(r))
+        .collect()
 }
 
 #[test]
@@ -371,13 +398,12 @@ fn rows_kernel() {
         let x = &generator.list(setting)[..columns];
         let (u, u_residues) = kernel_product(setting, &ticket, x);
         let a_by_rows = kernels::by_rows(&narrow(&a), inner);
-        let lift = setting.scale << (setting.width - 1);
-        let sums = plain_sums(&a, &b, columns);
-        let mut claims: Vec<u32> = sums.iter().map(|sum| lift.wrapping_add_signed(*sum)).collect();
+        let lift = kernels::lift(setting);
+        let mut claims = lifted_claims(setting, &ticket);
         assert!(kernels::rows(&a_by_rows, &claims, lift, x, &u), "{setting:?}");
         for _ in 0..4 {
             let place = generator.below(claims.len());
-            claims[place] = generator.number(0, 2 * lift - 1);
+            claims[place] = generator.number(0, (setting.scale << setting.width) - 1);
             let plain = claims
                 .chunks_exact(columns)
                 .zip(a.chunks_exact(inner))
@@ -414,9 +440,9 @@ fn records_kernel() {
         let [inner, columns] = [setting.inner, setting.columns].map(|columns| columns as usize);
         let [a, b] = generator.matrices(setting);
         let sums = plain_sums(&a, &b, columns);
-        let scale = setting.scale as i32;
-        let quotients: Vec<i32> = sums.iter().map(|sum| sum.div_euclid(scale)).collect();
-        let remainders: Vec<i32> = sums.iter().map(|sum| sum.rem_euclid(scale)).collect();
+        let [scale, rounding] = [setting.scale, setting.rounding].map(|number| number as i32);
+        let quotients: Vec<i32> = sums.iter().map(|sum| (sum + rounding).div_euclid(scale)).collect();
+        let remainders: Vec<i32> = sums.iter().map(|sum| (sum + rounding).rem_euclid(scale)).collect();
         let ticket = true_ticket(setting, &a, &b);
         let mut output = vec![0; ticket.len()];
         let parts = [

@@ -41,12 +41,12 @@ impl Kind {
     /// The numbers that the call answers with.
     pub fn numbers(self) -> &'static [u32] {
         match self {
-            Kind::Challenge => &[0, 1, 2, 3, 4, 5, 6, 7, 8, 9, 10, 11, 12],
-            Kind::Full => &[0, 1, 2, 3, 4, 5, 6, 7, 8, 9, 16],
-            Kind::Writer => &[0, 1, 2, 3, 13, 14, 15],
-            Kind::BiasChallenge => &[0, 1, 2, 3, 4, 5, 6, 7, 8, 9, 10, 11, 12, 17, 18],
-            Kind::BiasFull => &[0, 1, 2, 3, 4, 5, 6, 7, 8, 9, 16, 17, 18],
-            Kind::BiasWriter => &[0, 1, 2, 3, 13, 14, 15, 17, 18],
+            Kind::Challenge => &[0, 1, 2, 3, 4, 5, 6, 7, 8, 9, 10, 11, 12, 19],
+            Kind::Full => &[0, 1, 2, 3, 4, 5, 6, 7, 8, 9, 16, 19],
+            Kind::Writer => &[0, 1, 2, 3, 13, 14, 15, 19],
+            Kind::BiasChallenge => &[0, 1, 2, 3, 4, 5, 6, 7, 8, 9, 10, 11, 12, 17, 18, 19],
+            Kind::BiasFull => &[0, 1, 2, 3, 4, 5, 6, 7, 8, 9, 16, 17, 18, 19],
+            Kind::BiasWriter => &[0, 1, 2, 3, 13, 14, 15, 17, 18, 19],
         }
     }
 }
@@ -240,11 +240,11 @@ pub struct Visitor<'a>(pub &'a mut dyn FnMut(&Case));
 
 impl Visitor<'_> {
     /// The challenge check of a ticket with a list, and the full check of the
-    /// ticket. Both make the tests 1 to 9, 17 and 18 first, so a stated answer
+    /// ticket. Both make the tests 1 to 9 and 17 to 19 first, so a stated answer
     /// among these is that of both.
     pub fn checks(&mut self, case: &TicketCase) {
         self.challenge(case);
-        let of_both = case.expected.filter(|answer| matches!(answer.number, 1..=9 | 17 | 18));
+        let of_both = case.expected.filter(|answer| matches!(answer.number, 1..=9 | 17..=19));
         self.full(case.what, &case.setting, &case.ticket, of_both);
     }
 

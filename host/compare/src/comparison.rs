@@ -9,13 +9,13 @@ use crate::cases::{Call, Case, Family, Kind, Reply, Side, Visitor, GUARD};
 use crate::outcome::{agreed, Report};
 use crate::setting::Form;
 
-/// How often the library answered, and how often with each number from 0 to 18, for
+/// How often the library answered, and how often with each number from 0 to 19, for
 /// each call in the order of `Kind::ALL`. Any other number is a difference, and so
 /// is not counted by itself.
 #[derive(Clone, Debug, Default, PartialEq, Eq)]
 pub struct Numbers {
     cases: [u64; Kind::ALL.len()],
-    numbers: [[u64; 19]; Kind::ALL.len()],
+    numbers: [[u64; 20]; Kind::ALL.len()],
 }
 
 impl Numbers {
@@ -134,8 +134,15 @@ impl Display for Difference<'_> {
         writeln!(f, "  case {}, {}: {what}", self.index, self.case.kind().name())?;
         write!(
             f,
-            "  setting: rows {}, inner {}, columns {}, vectors {}, scale {}, bound {}, width {}",
-            setting.rows, setting.inner, setting.columns, setting.vectors, setting.scale, setting.bound, setting.width
+            "  setting: rows {}, inner {}, columns {}, vectors {}, scale {}, bound {}, width {}, rounding {}",
+            setting.rows,
+            setting.inner,
+            setting.columns,
+            setting.vectors,
+            setting.scale,
+            setting.bound,
+            setting.width,
+            setting.rounding
         )?;
         match setting.bias_bound {
             None => writeln!(f)?,
@@ -328,7 +335,7 @@ mod tests {
     /// A comparison that could not fail would be no test.
     #[test]
     fn a_wrong_answer_is_noticed() {
-        let setting = "setting: rows 2, inner 2, columns 2, vectors 1, scale 10, bound 8, width 5";
+        let setting = "setting: rows 2, inner 2, columns 2, vectors 1, scale 10, bound 8, width 5, rounding 0";
         let record_8 = "8: 03 00 00 00 FD FF FF 7F";
         assert_parts(
             &report(&challenge(Form::Plain), one_product_more),
@@ -367,7 +374,7 @@ mod tests {
 
     #[test]
     fn a_wrong_answer_of_a_bias_call_is_noticed() {
-        let setting = "scale 10, bound 8, width 5, bias bound 23";
+        let setting = "scale 10, bound 8, width 5, rounding 0, bias bound 23";
         let record_8 = "8: 05 00 00 00 FB FF FF 7F";
         assert_parts(
             &report(&challenge(Form::Bias), one_product_more),
@@ -530,15 +537,15 @@ mod tests {
         let mut numbers = Numbers::default();
         numbers.count(Kind::Full, 16);
         numbers.count(Kind::Writer, 0);
-        numbers.count(Kind::Writer, 19);
+        numbers.count(Kind::Writer, 20);
         numbers.count(Kind::Writer, u32::MAX);
-        numbers.count(Kind::BiasWriter, 18);
+        numbers.count(Kind::BiasWriter, 19);
         let mut twice = numbers.clone();
         twice.add(&numbers);
         assert_eq!(Kind::ALL.map(|kind| twice.cases(kind)), [0, 2, 6, 0, 0, 2]);
-        let all = [(Kind::Full, 16), (Kind::Writer, 0), (Kind::BiasWriter, 18)];
+        let all = [(Kind::Full, 16), (Kind::Writer, 0), (Kind::BiasWriter, 19)];
         for kind in Kind::ALL {
-            for number in 0..19 {
+            for number in 0..20 {
                 let counted = all.contains(&(kind, number));
                 assert_eq!(twice.of(kind, number), if counted { 2 } else { 0 });
             }

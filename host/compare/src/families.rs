@@ -10,6 +10,7 @@ mod false_tickets;
 mod lengths;
 mod lists;
 mod random;
+mod rounding;
 mod settings;
 mod true_tickets;
 pub mod writer;
@@ -119,18 +120,78 @@ const BIAS: [(&str, Cases); 6] = [
     ("random bias tickets, the largest", random::largest),
 ];
 
+/// Of both forms, with a rounding number. In all others o is 0.
+const ROUNDING: [(&str, Cases); 18] = [
+    ("examples with a rounding number", rounding::examples::examples),
+    (
+        "rounding numbers below, at and beyond the scale",
+        rounding::limits::below_and_beyond,
+    ),
+    (
+        "rounding numbers beside a number at or beyond its limits",
+        rounding::limits::pairs_of_limits,
+    ),
+    (
+        "rounding numbers beyond the scale and faults of all kinds",
+        rounding::limits::faults_of_all,
+    ),
+    (
+        "several refusals of the writer at once, and the rounding number",
+        writer::refusals::several_with_rounding,
+    ),
+    (
+        "settings at the edge of fitting by the rounding number",
+        rounding::limits::edge_of_fitting,
+    ),
+    (
+        "sums that reach the last quotient by the rounding number",
+        rounding::written::last_quotients,
+    ),
+    (
+        "tickets written for another rounding number",
+        rounding::shifted::other_roundings,
+    ),
+    ("rows of claims shifted by one number", rounding::shifted::rows),
+    (
+        "written tickets of many sizes, rounding numbers",
+        rounding::written::many_sizes,
+    ),
+    (
+        "written tickets, the largest rounding number that fits",
+        rounding::written::largest_roundings,
+    ),
+    (
+        "sums halfway between quotients, and next to it",
+        rounding::written::halves,
+    ),
+    (
+        "extreme entries and values, rounding numbers",
+        rounding::written::extremes,
+    ),
+    (
+        "one claim of a written ticket changed, rounding numbers",
+        rounding::written::changed_claims,
+    ),
+    ("random tickets, rounding numbers", rounding::random::tickets),
+    ("random settings, rounding numbers", rounding::random::settings),
+    ("random operands, rounding numbers", rounding::random::operands),
+    (
+        "random settings of the writer, rounding numbers",
+        rounding::random::settings_of_the_writer,
+    ),
+];
+
 /// All families, in the order of digests.txt.
 pub fn all() -> Vec<Family> {
     let family = |name: String, form, cases| Family { name, form, cases };
-    let plain = PLAIN
-        .iter()
-        .chain(&BOTH)
-        .map(|&(name, cases)| family(name.to_owned(), Form::Plain, cases));
-    let both = BOTH
-        .iter()
-        .map(|&(name, cases)| family(format!("{name}, with a bias"), Form::Bias, cases));
-    let bias = BIAS
-        .iter()
-        .map(|&(name, cases)| family(name.to_owned(), Form::Bias, cases));
-    plain.chain(both).chain(bias).collect()
+    let of_plain = |&(name, cases): &(&str, Cases)| family(name.to_owned(), Form::Plain, cases);
+    let of_bias = |&(name, cases): &(&str, Cases)| family(name.to_owned(), Form::Bias, cases);
+    let with_a_bias = |&(name, cases): &(&str, Cases)| family(format!("{name}, with a bias"), Form::Bias, cases);
+    let mut all = Vec::new();
+    all.extend(PLAIN.iter().chain(&BOTH).map(of_plain));
+    all.extend(BOTH.iter().map(with_a_bias));
+    all.extend(BIAS.iter().map(of_bias));
+    all.extend(ROUNDING.iter().map(of_plain));
+    all.extend(ROUNDING.iter().map(with_a_bias));
+    all
 }

@@ -150,7 +150,7 @@ mod tests {
 
     #[test]
     fn every_number_of_the_table_is_given_by_some_call() {
-        for number in 0..=18 {
+        for number in 0..=19 {
             assert!(Kind::ALL.iter().any(|kind| kind.numbers().contains(&number)));
         }
     }
@@ -168,8 +168,8 @@ mod tests {
     fn the_summary() {
         assert_eq!(
             summary(5, &all_but(None), 3),
-            "families 5, challenge check 13, full check 11, writer 7, bias challenge check 15, bias full check 13, \
-             bias writer 9, residue calls 7, inputs 3"
+            "families 5, challenge check 14, full check 12, writer 8, bias challenge check 16, bias full check 14, \
+             bias writer 10, residue calls 7, inputs 3"
         );
     }
 }

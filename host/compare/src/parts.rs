@@ -2,7 +2,7 @@
 
 use apart::make;
 
-use crate::setting::{Setting, Taken};
+use crate::setting::{Form, Setting, Taken};
 
 /// The numbers of each part, row by row. A plain ticket has no bias.
 #[derive(Clone, Debug, PartialEq, Eq)]
@@ -15,26 +15,27 @@ pub struct Parts {
 }
 
 impl Parts {
-    fn new(parts: make::Parts, bias: Vec<i64>) -> Parts {
-        Parts {
-            a: parts.a,
-            b: parts.b,
-            bias,
-            quotients: parts.quotients,
-            remainders: parts.remainders,
-        }
-    }
-
-    /// Those of the ticket for these operands whose claims are true. A plain ticket
-    /// is made without the bias.
+    /// Those of the ticket for these operands whose claims are true: each sum with o
+    /// is divided here, so that an error of both sides in it is noticed. A plain
+    /// ticket is made without the bias, and a scale of 0 counts as 1.
     pub fn true_ones(setting: &Setting, a: &[i64], b: &[i64], bias: &[i64]) -> Parts {
-        match setting.of_apart() {
-            Taken::Plain(setting) => Parts::new(make::Parts::true_ones(&setting, a, b), Vec::new()),
-            Taken::Bias(setting) => {
-                let made = make::BiasParts::true_ones(&setting, a, b, bias);
-                Parts::new(made.parts, made.bias)
-            }
+        let mut parts = Parts {
+            a: a.to_vec(),
+            b: b.to_vec(),
+            bias: match setting.form() {
+                Form::Plain => Vec::new(),
+                Form::Bias => bias.to_vec(),
+            },
+            quotients: Vec::new(),
+            remainders: Vec::new(),
+        };
+        let [alpha, o] = [setting.scale.max(1), setting.rounding].map(i128::from);
+        for sum in parts.sums(setting) {
+            let quotient = (sum + o).div_euclid(alpha);
+            parts.quotients.push(quotient as i64);
+            parts.remainders.push((sum + o - alpha * quotient) as i64);
         }
+        parts
     }
 
     /// The ticket that holds these numbers.

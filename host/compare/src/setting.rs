@@ -18,11 +18,13 @@ pub struct Setting {
     pub scale: u32,
     pub bound: u32,
     pub width: u32,
+    pub rounding: u32,
     pub bias_bound: Option<u32>,
 }
 
 impl From<[u32; 7]> for Setting {
-    /// The setting of these numbers for a plain ticket: ℓ, m, n, s, α, T, v.
+    /// The setting of these numbers for a plain ticket: ℓ, m, n, s, α, T, v. Its o
+    /// is 0.
     fn from([rows, inner, columns, vectors, scale, bound, width]: [u32; 7]) -> Setting {
         Setting {
             rows,
@@ -32,6 +34,7 @@ impl From<[u32; 7]> for Setting {
             scale,
             bound,
             width,
+            rounding: 0,
             bias_bound: None,
         }
     }
@@ -47,6 +50,7 @@ impl Setting {
             scale: setting.scale,
             bound: setting.bound,
             width: setting.width,
+            rounding: setting.rounding,
             bias_bound: None,
         }
     }
@@ -65,8 +69,8 @@ impl Setting {
         }
     }
 
-    /// The seven numbers of every setting: ℓ, m, n, s, α, T, v.
-    pub fn numbers(&self) -> [u32; 7] {
+    /// The eight numbers of every setting: ℓ, m, n, s, α, T, v, o.
+    pub fn numbers(&self) -> [u32; 8] {
         [
             self.rows,
             self.inner,
@@ -75,6 +79,7 @@ impl Setting {
             self.scale,
             self.bound,
             self.width,
+            self.rounding,
         ]
     }
 

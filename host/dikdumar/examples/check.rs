@@ -17,6 +17,7 @@ const SETTING: Setting = Setting {
     scale: 10,
     bound: 8,
     width: 5,
+    rounding: 0,
 };
 
 /// A times B is (-17, 34), (23, -2); the claims are these sums over 10, rounded
@@ -53,7 +54,7 @@ fn action(answer: Answer) -> String {
         }
         4 => "hold the pallet and ask for the ticket again: wrong length".to_string(),
         5..=9 => format!("hold the pallet and ask for the ticket again: record {place} is refused"),
-        // The setting (1, 2, 3) or the list (10, 11), which are this program's own.
+        // The setting (1, 2, 19, 3) or the list (10, 11), which are this program's own.
         _ => "hold the pallet and stop the line: the controller is wrong".to_string(),
     }
 }
@@ -97,7 +98,7 @@ mod tests {
     /// No number but 0 lets a pallet pass, not even one that is not in the table.
     #[test]
     fn only_accepted_passes() {
-        for number in (0..=19).chain([u32::MAX]) {
+        for number in (0..=20).chain([u32::MAX]) {
             let answer = Answer {
                 number,
                 place: 0,

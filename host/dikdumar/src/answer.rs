@@ -34,6 +34,7 @@
 /// | 17 | W above 2^30 | 0 | 0 | 0 | bias challenge check, bias full check, bias writer |
 /// | 18 | bias entry below -W or above W | record | 0 | 0 | bias challenge check, bias full check |
 /// | 18 | number of the bias below -W or above W | index after A and B | 0 | 0 | bias writer |
+/// | 19 | o not below α | 0 | 0 | 0 | all calls |
 #[repr(C)]
 #[derive(Clone, Copy, Debug, PartialEq, Eq)]
 pub struct Answer {

@@ -1,10 +1,10 @@
 //! The two checks of a ticket, and those of a bias ticket.
 //!
 //! Both read the ticket, test every record of it, and then compare both sides of
-//! the claims αq + r = S: the challenge check modulo p = 2,147,483,647, times the
-//! challenge vectors of a list that the caller supplies; the full check each
+//! the claims αq + r - o = S: the challenge check modulo p = 2,147,483,647, times
+//! the challenge vectors of a list that the caller supplies; the full check each
 //! claim for itself, with no list and more products. A bias ticket also holds a
-//! bias entry c for each claim, which is then αq + r = S + c.
+//! bias entry c for each claim, which is then αq + r - o = S + c.
 //!
 //! Every call takes every setting, every ticket and every list, and changes
 //! none of them.
@@ -18,14 +18,14 @@ use crate::{library, Answer, BiasSetting, Setting};
 /// with lists for which its errors cancel, so the numbers are to be drawn at
 /// random once the ticket is fixed.
 ///
-/// The tests are made in the order of their numbers, except that 5 to 9 are made
-/// record after record; the first that fails decides the answer.
+/// The tests are made in the order 1, 2, 19, 3, 4, then record after record 5, 6
+/// and its own range, then 10, 11 and 12; the first that fails decides the answer.
 ///
 /// ```
 /// use dikdumar::{challenge_check, write_ticket, Setting};
 ///
 /// // One row, one column: 7 · 9 = 63 = 10 · 6 + 3. Two vectors of one number each.
-/// let setting = Setting::from([1, 1, 1, 2, 10, 9, 5]);
+/// let setting = Setting::from([1, 1, 1, 2, 10, 9, 5, 0]);
 /// let mut ticket = [0; 32];
 /// write_ticket(setting, &[7], &[9], &mut ticket);
 ///
@@ -37,6 +37,10 @@ use crate::{library, Answer, BiasSetting, Setting};
 /// assert_eq!(challenge_check(setting, &ticket, &[1_234_567, 89]).numbers(), [9, 3, 0, 0]);
 /// ticket[28] = 4;
 /// assert_eq!(challenge_check(setting, &ticket, &[1_234_567, 89]).numbers(), [12, 0, 0, 3]);
+///
+/// // 10 · 6 + 4 is the claim for 63 with a rounding of 1.
+/// let with_one = Setting { rounding: 1, ..setting };
+/// assert_eq!(challenge_check(with_one, &ticket, &[1_234_567, 89]).numbers(), [0, 0, 0, 6]);
 /// ```
 pub fn challenge_check(setting: Setting, ticket: &[u8], list: &[u32]) -> Answer {
     library::challenge_check(setting, ticket, list)
@@ -45,15 +49,15 @@ pub fn challenge_check(setting: Setting, ticket: &[u8], list: &[u32]) -> Answer 
 /// Checks every claim of a ticket, row by row. It accepts the true tickets and no
 /// other.
 ///
-/// The tests are 1 to 9 as in [`challenge_check`], and then 16; the first that
-/// fails decides the answer. The number of vectors in the setting is tested with
-/// the rest of it, and not used.
+/// The tests are those of [`challenge_check`] before 10, and then 16; the first
+/// that fails decides the answer. The number of vectors in the setting is tested
+/// with the rest of it, and not used.
 ///
 /// ```
 /// use dikdumar::{full_check, write_ticket, Setting};
 ///
 /// // One row of A, two columns of B: 7 · 9 = 63 and 7 · (-9) = -63, over 10.
-/// let setting = Setting::from([1, 1, 2, 1, 10, 9, 5]);
+/// let setting = Setting::from([1, 1, 2, 1, 10, 9, 5, 0]);
 /// let mut ticket = [0; 56];
 /// write_ticket(setting, &[7], &[9, -9], &mut ticket);
 /// assert_eq!(full_check(setting, &ticket).numbers(), [0, 0, 0, 2]);
@@ -70,15 +74,15 @@ pub fn full_check(setting: Setting, ticket: &[u8]) -> Answer {
 /// of a plain one.
 ///
 /// The bias, ℓ by n records of kind 5, stands between B and the quotients. The
-/// tests are made in the order 1, 2, 17, 3, 4, then record after record 5, 6 and
-/// its own range, for an entry of the bias 18, then 10, 11 and 12; the first that
-/// fails decides the answer.
+/// tests are made in the order 1, 2, 17, 19, 3, 4, then record after record 5, 6
+/// and its own range, for an entry of the bias 18, then 10, 11 and 12; the first
+/// that fails decides the answer.
 ///
 /// ```
 /// use dikdumar::{bias_challenge_check, write_bias_ticket, BiasSetting};
 ///
-/// // ℓ = m = n = 2, s = 1, α = 10, T = 8, v = 5, W = 23.
-/// let setting = BiasSetting::from([2, 2, 2, 1, 10, 8, 5, 23]);
+/// // ℓ = m = n = 2, s = 1, α = 10, T = 8, v = 5, o = 0, W = 23.
+/// let setting = BiasSetting::from([2, 2, 2, 1, 10, 8, 5, 0, 23]);
 /// let (a, b, bias) = ([3, -2, 5, 4], [-1, 6, 7, -8], [-4, 23, -23, 5]);
 /// let mut ticket = [0; 160];
 /// write_bias_ticket(setting, &a, &b, &bias, &mut ticket);
@@ -107,7 +111,7 @@ pub fn bias_challenge_check(setting: BiasSetting, ticket: &[u8], list: &[u32]) -
 /// use dikdumar::{bias_full_check, write_bias_ticket, BiasSetting};
 ///
 /// // One row of A, two columns of B: 63 + 5 = 68 and -63 - 5 = -68, over 10.
-/// let setting = BiasSetting::from([1, 1, 2, 1, 10, 9, 5, 5]);
+/// let setting = BiasSetting::from([1, 1, 2, 1, 10, 9, 5, 0, 5]);
 /// let mut ticket = [0; 72];
 /// write_bias_ticket(setting, &[7], &[9, -9], &[5, -5], &mut ticket);
 /// assert_eq!(bias_full_check(setting, &ticket).numbers(), [0, 0, 0, 2]);
@@ -124,8 +128,8 @@ pub fn bias_full_check(setting: BiasSetting, ticket: &[u8]) -> Answer {
 mod tests {
     use super::*;
 
-    /// ℓ = m = n = 2, s = 1, α = 10, T = 8, v = 5.
-    const K: [u32; 7] = [2, 2, 2, 1, 10, 8, 5];
+    /// ℓ = m = n = 2, s = 1, α = 10, T = 8, v = 5, o = 0.
+    const K: [u32; 8] = [2, 2, 2, 1, 10, 8, 5, 0];
 
     const A: [i32; 4] = [3, -2, 5, 4];
     const B: [i32; 4] = [-1, 6, 7, -8];
@@ -188,7 +192,7 @@ mod tests {
     }
 
     /// K with W = 23.
-    const K_WITH_BIAS: [u32; 8] = [2, 2, 2, 1, 10, 8, 5, 23];
+    const K_WITH_BIAS: [u32; 9] = [2, 2, 2, 1, 10, 8, 5, 0, 23];
 
     /// The bias ticket for A and B with this bias; of -4, 23, -23, 5 the sums are
     /// -21, 57, 0 and 3, and the claims are true.
@@ -234,16 +238,75 @@ mod tests {
 
     #[test]
     fn a_bound_of_the_bias_is_refused_after_2_and_before_3() {
+        let number = bias_number;
+        assert_eq!(number([2, 2, 2, 1, 10, 8, 5, 0, 24]), [3, 3]);
+        assert_eq!(number([2, 2, 2, 1, 10, 8, 5, 0, 1 << 30]), [3, 3]);
+        assert_eq!(number([2, 2, 2, 1, 10, 8, 4, 0, (1 << 30) + 1]), [17, 17]);
+        assert_eq!(number([2, 2, 2, 1, 10, 8, 31, 0, u32::MAX]), [2, 2]);
+        assert_eq!(number([2, 2, 33, 1, 10, 8, 5, 0, u32::MAX]), [1, 1]);
+    }
+
+    /// The numbers that both checks of bias tickets give to nothing.
+    fn bias_number(setting: [u32; 9]) -> [u32; 2] {
+        let setting = BiasSetting::from(setting);
+        let of_both = [bias_challenge_check(setting, &[], &[]), bias_full_check(setting, &[])];
+        of_both.map(|answer| answer.number)
+    }
+
+    #[test]
+    fn a_rounding_is_refused_after_2_and_17_and_before_3() {
         let number = |setting: [u32; 8]| {
-            let setting = BiasSetting::from(setting);
-            let of_both = [bias_challenge_check(setting, &[], &[]), bias_full_check(setting, &[])];
+            let setting = Setting::from(setting);
+            let of_both = [challenge_check(setting, &[], &[]), full_check(setting, &[])];
             of_both.map(|answer| answer.number)
         };
-        assert_eq!(number([2, 2, 2, 1, 10, 8, 5, 24]), [3, 3]);
-        assert_eq!(number([2, 2, 2, 1, 10, 8, 5, 1 << 30]), [3, 3]);
-        assert_eq!(number([2, 2, 2, 1, 10, 8, 4, (1 << 30) + 1]), [17, 17]);
-        assert_eq!(number([2, 2, 2, 1, 10, 8, 31, u32::MAX]), [2, 2]);
-        assert_eq!(number([2, 2, 33, 1, 10, 8, 5, u32::MAX]), [1, 1]);
+        assert_eq!(number([2, 2, 2, 1, 10, 8, 5, 9]), [4, 4]);
+        assert_eq!(number([2, 2, 2, 1, 10, 8, 5, 10]), [19, 19]);
+        assert_eq!(number([2, 2, 2, 1, 10, 8, 4, u32::MAX]), [19, 19]);
+        assert_eq!(number([2, 2, 2, 1, 10, 8, 4, 9]), [3, 3]);
+        assert_eq!(number([2, 2, 2, 1, 10, 8, 31, 10]), [2, 2]);
+        assert_eq!(number([2, 2, 33, 1, 10, 8, 5, 10]), [1, 1]);
+        assert_eq!(bias_number([2, 2, 2, 1, 10, 8, 5, 9, 14]), [4, 4]);
+        assert_eq!(bias_number([2, 2, 2, 1, 10, 8, 5, 9, 15]), [3, 3]);
+        assert_eq!(bias_number([2, 2, 2, 1, 10, 8, 5, 10, 24]), [19, 19]);
+        assert_eq!(bias_number([2, 2, 2, 1, 10, 8, 5, 10, (1 << 30) + 1]), [17, 17]);
+        assert_eq!(bias_number([2, 2, 2, 1, 10, 8, 31, 10, 23]), [2, 2]);
+    }
+
+    #[test]
+    fn claims_are_judged_with_the_rounding() {
+        // -17, 34, 23 and -2 with 5 added, over 10.
+        let nearest = Setting {
+            rounding: 5,
+            ..Setting::from(K)
+        };
+        let rounded = records(&[(1, A), (2, B), (3, [-2, 3, 2, 0]), (4, [8, 9, 8, 3])]);
+        assert_eq!(challenge_check(nearest, &rounded, &[1, 2]).numbers(), [0, 0, 0, 12]);
+        assert_eq!(full_check(nearest, &rounded).numbers(), [0, 0, 0, 8]);
+        // Each is false under the other's setting; there 1 and p - 1 cancel the 5.
+        assert_eq!(challenge(&rounded, &[1, 2]), [12, 0, 0, 8]);
+        assert_eq!(challenge(&rounded, &[1, 2_147_483_646]), [0, 0, 0, 12]);
+        assert_eq!(full(&rounded), [16, 0, 0, 2]);
+        assert_eq!(
+            challenge_check(nearest, &ticket(TRUE), &[1, 2]).numbers(),
+            [12, 0, 0, 8]
+        );
+        assert_eq!(full_check(nearest, &ticket(TRUE)).numbers(), [16, 0, 0, 2]);
+    }
+
+    #[test]
+    fn claims_with_a_bias_are_judged_with_the_rounding() {
+        // -21, 52, 5 and 3 with 5 added, over 10.
+        let nearest = BiasSetting::from([2, 2, 2, 1, 10, 8, 5, 5, 18]);
+        let bias = [-4, 18, -18, 5];
+        let rounded = records(&[(1, A), (2, B), (5, bias), (3, [-2, 5, 1, 0]), (4, [4, 7, 0, 8])]);
+        assert_eq!(
+            bias_challenge_check(nearest, &rounded, &[1, 2]).numbers(),
+            [0, 0, 0, 16]
+        );
+        assert_eq!(bias_full_check(nearest, &rounded).numbers(), [0, 0, 0, 8]);
+        assert_eq!(bias_challenge(&rounded, &[1, 2]), [12, 0, 0, 10]);
+        assert_eq!(bias_full(&rounded), [16, 0, 0, 2]);
     }
 
     #[test]

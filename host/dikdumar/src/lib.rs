@@ -3,8 +3,9 @@
 //! arithmetic.
 //!
 //! A ticket holds two integer matrices A and B and, for every entry S of their
-//! product, a quotient q and a remainder r with the claim αq + r = S. A bias
-//! ticket also holds a bias c for every S, and its claims are αq + r = S + c.
+//! product, a quotient q and a remainder r, those of S + o over α: the claim is
+//! αq + r - o = S. A bias ticket also holds a bias c for every S, and its claims
+//! are αq + r - o = S + c.
 //!
 //! Every call takes every value of its arguments, and changes none that is lent
 //! for reading. None panics, allocates, or asks anything of its caller.
@@ -12,8 +13,8 @@
 //! ```
 //! use dikdumar::{challenge_check, full_check, write_ticket, Setting};
 //!
-//! // ℓ = m = n = 2, s = 1, α = 10, T = 8, v = 5.
-//! let setting = Setting::from([2, 2, 2, 1, 10, 8, 5]);
+//! // ℓ = m = n = 2, s = 1, α = 10, T = 8, v = 5, o = 0.
+//! let setting = Setting::from([2, 2, 2, 1, 10, 8, 5, 0]);
 //!
 //! let mut ticket = [0; 128];
 //! let answer = write_ticket(setting, &[3, -2, 5, 4], &[-1, 6, 7, -8], &mut ticket);
@@ -33,7 +34,7 @@
 //! use dikdumar::{bias_challenge_check, bias_full_check, write_bias_ticket, BiasSetting};
 //!
 //! // The same with a bias, and W = 23.
-//! let setting = BiasSetting::from([2, 2, 2, 1, 10, 8, 5, 23]);
+//! let setting = BiasSetting::from([2, 2, 2, 1, 10, 8, 5, 0, 23]);
 //!
 //! let mut ticket = [0; 160];
 //! let (a, b, bias) = ([3, -2, 5, 4], [-1, 6, 7, -8], [-4, 23, -23, 5]);

@@ -45,7 +45,7 @@ impl Change {
 
 /// Every change of the claim at one place of a true ticket: untrue there where it
 /// stays in range, refused at its record where it does not.
-fn visit_changes(visit: &mut Visitor, generator: &mut Generator, setting: &Setting, right: &Parts, place: usize) {
+pub fn visit_changes(visit: &mut Visitor, generator: &mut Generator, setting: &Setting, right: &Parts, place: usize) {
     let half = 1 << (setting.width - 1);
     let alpha = i64::from(setting.scale);
     let first_quotient = right.a.len() + right.b.len() + right.bias.len();
@@ -106,7 +106,7 @@ pub fn some_claims(visit: &mut Visitor, form: Form) {
     }
 }
 
-fn visit_some(visit: &mut Visitor, generator: &mut Generator, setting: &Setting) {
+pub fn visit_some(visit: &mut Visitor, generator: &mut Generator, setting: &Setting) {
     let right = true_parts(generator, setting);
     let count = right.quotients.len();
     let columns = setting.columns as usize;
@@ -213,7 +213,7 @@ mod tests {
             (operands, Form::Bias, &[0, 7, 16, 18]),
         ];
         for (family, form, numbers) in families {
-            let mut counts = [0; 19];
+            let mut counts = [0; 20];
             let mut visit = |case: &Case| {
                 if let Call::Full { .. } = case.call {
                     let stated = case.expected.as_ref().expect("every case is stated");

@@ -32,6 +32,7 @@ pub const LARGEST: Setting = Setting {
     scale: 1000,
     bound: 100,
     width: 11,
+    rounding: 0,
     bias_bound: None,
 };
 
@@ -46,6 +47,7 @@ const SHAPES: [Setting; 5] = [
         scale: 2,
         bound: 1,
         width: 1,
+        rounding: 0,
         bias_bound: None,
     },
     Setting {
@@ -56,6 +58,7 @@ const SHAPES: [Setting; 5] = [
         scale: 65_536,
         bound: 181,
         width: 13,
+        rounding: 0,
         bias_bound: None,
     },
     Setting {
@@ -66,6 +69,7 @@ const SHAPES: [Setting; 5] = [
         scale: 7,
         bound: 100,
         width: 28,
+        rounding: 0,
         bias_bound: None,
     },
     // By one the first condition of fitting holds here.
@@ -77,6 +81,7 @@ const SHAPES: [Setting; 5] = [
         scale: 32_767,
         bound: 32_767,
         width: 16,
+        rounding: 0,
         bias_bound: None,
     },
 ];
@@ -103,7 +108,8 @@ pub fn shapes_and_largest(form: Form) -> impl Iterator<Item = Setting> {
     shapes(form).into_iter().chain([in_form(LARGEST, form)])
 }
 
-/// A number of a setting, with its limits.
+/// A number of a setting, with its limits. Those of o go by α, and it is not among
+/// these.
 pub struct Field {
     pub of: fn(&mut Setting) -> &mut u32,
     pub least: u32,
@@ -141,12 +147,12 @@ pub fn fields(form: Form) -> &'static [Field] {
     }
 }
 
-/// What is left on the right of the first condition of fitting, m·T² + α - 1 ≤
-/// 2^(v-1)·α, or m·T² + W + α - 1 ≤ 2^(v-1)·α, within the limits.
+/// What is left on the right of the first condition of fitting, m·T² + o + α - 1 ≤
+/// 2^(v-1)·α, or m·T² + W + o + α - 1 ≤ 2^(v-1)·α, within the limits.
 pub fn slack(setting: &Setting) -> i64 {
     let [m, t, alpha] = [setting.inner, setting.bound, setting.scale].map(i64::from);
-    let w = i64::from(setting.greatest_bias());
-    (alpha << (setting.width - 1)) - (m * t * t + w + alpha - 1)
+    let [w, o] = [setting.greatest_bias(), setting.rounding].map(i64::from);
+    (alpha << (setting.width - 1)) - (m * t * t + w + o + alpha - 1)
 }
 
 /// Whether a setting within the limits fits.
@@ -155,9 +161,14 @@ pub fn fits(setting: &Setting) -> bool {
 }
 
 /// A setting of the given sizes that fits: a bound of any number of bits, then
-/// any scale and width that go with it, and then any W.
+/// any scale and width that go with it, and then any W. Its o is 0.
 pub fn fitting(generator: &mut Generator, form: Form, sizes: [u32; 4]) -> Setting {
     let setting = plain_fitting(generator, sizes);
+    with_some_bias_bound(generator, form, setting)
+}
+
+/// A plain setting that fits, in either form: for bias tickets with any W.
+pub fn with_some_bias_bound(generator: &mut Generator, form: Form, setting: Setting) -> Setting {
     match form {
         Form::Plain => setting,
         Form::Bias => Setting {
@@ -242,7 +253,8 @@ pub fn true_parts(generator: &mut Generator, setting: &Setting) -> Parts {
     Parts::true_ones(setting, &a, &b, &bias)
 }
 
-/// The parts that are zeros only, whose ticket is true.
+/// The parts of the true ticket whose operands are zeros only. The remainders are
+/// o, and all else is 0.
 pub fn zeros(setting: &Setting) -> Parts {
     let [of_a, of_b, of_bias, claims] = counts(setting);
     Parts {
@@ -250,7 +262,7 @@ pub fn zeros(setting: &Setting) -> Parts {
         b: vec![0; of_b],
         bias: vec![0; of_bias],
         quotients: vec![0; claims],
-        remainders: vec![0; claims],
+        remainders: vec![i64::from(setting.rounding); claims],
     }
 }
 
@@ -323,14 +335,14 @@ pub fn falsify_bias(generator: &mut Generator, setting: &Setting, parts: &mut Pa
     }
 }
 
-/// αq + r - S, or αq + r - S - c, in every place, row by row.
+/// αq + r - o - S, or αq + r - o - S - c, in every place, row by row.
 pub fn differences(setting: &Setting, parts: &Parts) -> Vec<i128> {
-    let alpha = i128::from(setting.scale);
+    let [alpha, o] = [setting.scale, setting.rounding].map(i128::from);
     parts
         .sums(setting)
         .into_iter()
         .zip(parts.quotients.iter().zip(&parts.remainders))
-        .map(|(sum, (&q, &r))| alpha * i128::from(q) + i128::from(r) - sum)
+        .map(|(sum, (&q, &r))| alpha * i128::from(q) + i128::from(r) - o - sum)
         .collect()
 }
 

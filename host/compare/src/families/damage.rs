@@ -244,43 +244,51 @@ pub fn two_faults(visit: &mut Visitor, form: Form) {
     visit_faults_of_all(visit, form);
 }
 
-/// One fault more and more, from the last test to the first: a false claim, a
-/// list number, the list's length, a record, the ticket's length, and those of the
-/// setting. Each later one decides.
 fn visit_faults_of_all(visit: &mut Visitor, form: Form) {
     let mut generator = Generator::new(205);
     for setting in shapes_and_largest(form) {
-        let mut parts: Parts = true_parts(&mut generator, &setting);
-        falsify(&mut generator, &setting, &mut parts, 0, 0);
-        let list = list_without_zero(&mut generator, &setting);
-        let mut case = claims_case("faults of all kinds", &setting, &parts, &list);
-        let mut next = |case: &mut TicketCase, expected: Answer| {
-            case.expected = Some(expected);
-            visit.checks(case);
-        };
-        next(&mut case, caught(&setting, 0, 0));
-        let last = case.list.len() - 1;
-        case.list[last] = P;
-        next(&mut case, refused(11, last));
-        case.list.push(0);
-        next(&mut case, refused(10, 0));
-        let records = case.ticket.len() / 8;
-        for fault in [Fault::Range, Fault::Value(P), Fault::Head(3)] {
-            let number = spoil(&setting, &mut case.ticket, records - 1, fault);
-            next(&mut case, refused(number, records - 1));
-        }
-        case.ticket.push(0);
-        next(&mut case, refused(4, 0));
-        case.setting.scale = 65_536;
-        case.setting.width = 30;
-        next(&mut case, refused(3, 0));
-        if form == Form::Bias {
-            case.setting.bias_bound = Some((1 << 30) + 1);
-            next(&mut case, refused(17, 0));
-        }
-        case.setting.width = 31;
-        next(&mut case, refused(2, 0));
-        case.setting.vectors = 9;
-        next(&mut case, refused(1, 0));
+        visit_more_and_more(visit, &mut generator, &setting, None);
     }
+}
+
+/// One fault more and more, from the last test to the first: a false claim, a
+/// list number, the list's length, a record, the ticket's length, and those of the
+/// setting, where an o may be given that no α is above. Each later one decides.
+pub fn visit_more_and_more(visit: &mut Visitor, generator: &mut Generator, setting: &Setting, beyond: Option<u32>) {
+    let mut parts: Parts = true_parts(generator, setting);
+    falsify(generator, setting, &mut parts, 0, 0);
+    let list = list_without_zero(generator, setting);
+    let mut case = claims_case("faults of all kinds", setting, &parts, &list);
+    let mut next = |case: &mut TicketCase, expected: Answer| {
+        case.expected = Some(expected);
+        visit.checks(case);
+    };
+    next(&mut case, caught(setting, 0, 0));
+    let last = case.list.len() - 1;
+    case.list[last] = P;
+    next(&mut case, refused(11, last));
+    case.list.push(0);
+    next(&mut case, refused(10, 0));
+    let records = case.ticket.len() / 8;
+    for fault in [Fault::Range, Fault::Value(P), Fault::Head(3)] {
+        let number = spoil(setting, &mut case.ticket, records - 1, fault);
+        next(&mut case, refused(number, records - 1));
+    }
+    case.ticket.push(0);
+    next(&mut case, refused(4, 0));
+    case.setting.scale = 65_536;
+    case.setting.width = 30;
+    next(&mut case, refused(3, 0));
+    if let Some(rounding) = beyond {
+        case.setting.rounding = rounding;
+        next(&mut case, refused(19, 0));
+    }
+    if setting.form() == Form::Bias {
+        case.setting.bias_bound = Some((1 << 30) + 1);
+        next(&mut case, refused(17, 0));
+    }
+    case.setting.width = 31;
+    next(&mut case, refused(2, 0));
+    case.setting.vectors = 9;
+    next(&mut case, refused(1, 0));
 }

@@ -13,7 +13,7 @@ use crate::parts::Parts;
 use crate::setting::{Form, Setting};
 
 /// Settings at the ends of what fits, and the small shapes.
-fn settings(form: Form) -> impl Iterator<Item = Setting> {
+pub fn settings(form: Form) -> impl Iterator<Item = Setting> {
     let of_two = |scale, bound, width| in_form(Setting::from([2, 1, 2, 2, scale, bound, width]), form);
     let narrow_and_wide = [
         // v = 1: the quotients are -1 and 0.
@@ -29,8 +29,6 @@ fn settings(form: Form) -> impl Iterator<Item = Setting> {
     shapes(form).into_iter().chain(narrow_and_wide).chain(widest_bias)
 }
 
-/// Every entry of A and B at T or -T, and of the bias at W or -W, in patterns that
-/// make the sums the largest and the smallest and change between.
 pub fn entries(visit: &mut Visitor, form: Form) {
     let mut generator = Generator::new(601);
     let widest = Setting {
@@ -41,32 +39,38 @@ pub fn entries(visit: &mut Visitor, form: Form) {
     };
     let large = [LARGEST, widest].map(|setting| in_form(setting, form));
     for setting in settings(form).chain(large) {
-        let [of_a, of_b, of_bias, _] = counts(&setting);
-        let [bound, bias_bound] = [setting.bound, setting.greatest_bias()].map(i64::from);
-        let patterns: [fn(usize) -> i64; 4] = [
-            |_| 1,
-            |_| -1,
-            |index| if index % 2 == 0 { 1 } else { -1 },
-            |index| if index % 3 == 0 { -1 } else { 1 },
-        ];
-        for in_a in patterns {
-            for in_b in patterns {
-                let a: Vec<i64> = (0..of_a).map(|index| bound * in_a(index)).collect();
-                let b: Vec<i64> = (0..of_b).map(|index| bound * in_b(index)).collect();
-                let bias: Vec<i64> = (0..of_bias)
-                    .map(|index| bias_bound * in_a(index) * in_b(index))
-                    .collect();
-                let parts = Parts::true_ones(&setting, &a, &b, &bias);
-                let list = list_without_zero(&mut generator, &setting);
-                visit_claims(visit, "entries T and -T", &setting, &parts, &list);
-                visit.challenge(&claims_case(
-                    "entries T and -T, list of p - 1",
-                    &setting,
-                    &parts,
-                    &vec![P - 1; list.len()],
-                ));
-                visit_extreme_claims(visit, &setting, &parts, &list);
-            }
+        visit_entries(visit, &mut generator, &setting);
+    }
+}
+
+/// Every entry of A and B at T or -T, and of the bias at W or -W, in patterns that
+/// make the sums the largest and the smallest and change between.
+pub fn visit_entries(visit: &mut Visitor, generator: &mut Generator, setting: &Setting) {
+    let [of_a, of_b, of_bias, _] = counts(setting);
+    let [bound, bias_bound] = [setting.bound, setting.greatest_bias()].map(i64::from);
+    let patterns: [fn(usize) -> i64; 4] = [
+        |_| 1,
+        |_| -1,
+        |index| if index % 2 == 0 { 1 } else { -1 },
+        |index| if index % 3 == 0 { -1 } else { 1 },
+    ];
+    for in_a in patterns {
+        for in_b in patterns {
+            let a: Vec<i64> = (0..of_a).map(|index| bound * in_a(index)).collect();
+            let b: Vec<i64> = (0..of_b).map(|index| bound * in_b(index)).collect();
+            let bias: Vec<i64> = (0..of_bias)
+                .map(|index| bias_bound * in_a(index) * in_b(index))
+                .collect();
+            let parts = Parts::true_ones(setting, &a, &b, &bias);
+            let list = list_without_zero(generator, setting);
+            visit_claims(visit, "entries T and -T", setting, &parts, &list);
+            visit.challenge(&claims_case(
+                "entries T and -T, list of p - 1",
+                setting,
+                &parts,
+                &vec![P - 1; list.len()],
+            ));
+            visit_extreme_claims(visit, setting, &parts, &list);
         }
     }
 }
@@ -85,65 +89,69 @@ fn visit_extreme_claims(visit: &mut Visitor, setting: &Setting, parts: &Parts, l
     }
 }
 
-/// In every record each value at an end of a range, and next to it.
 pub fn values(visit: &mut Visitor, form: Form) {
     let mut generator = Generator::new(602);
     for setting in settings(form) {
-        let right = true_parts(&mut generator, &setting);
-        let list = list_without_zero(&mut generator, &setting);
-        let mut case = TicketCase {
-            what: "an extreme value",
-            setting,
-            ticket: right.ticket(&setting),
-            list,
-            expected: None,
-        };
-        let [a, b, bias, claims] = counts(&setting);
-        let [bound, bias_bound] = [setting.bound, setting.greatest_bias()].map(i64::from);
-        let alpha = i64::from(setting.scale);
-        let half = 1 << (setting.width - 1);
-        let mut ends = vec![0, bound, -bound, half, -half, 2 * half, -2 * half, alpha, -alpha];
-        if form == Form::Bias {
-            ends.extend([bias_bound, -bias_bound]);
+        visit_values(visit, &mut generator, &setting);
+    }
+}
+
+/// In every record each value at an end of a range, and next to it.
+pub fn visit_values(visit: &mut Visitor, generator: &mut Generator, setting: &Setting) {
+    let right = true_parts(generator, setting);
+    let list = list_without_zero(generator, setting);
+    let mut case = TicketCase {
+        what: "an extreme value",
+        setting: *setting,
+        ticket: right.ticket(setting),
+        list,
+        expected: None,
+    };
+    let [a, b, bias, claims] = counts(setting);
+    let [bound, bias_bound] = [setting.bound, setting.greatest_bias()].map(i64::from);
+    let alpha = i64::from(setting.scale);
+    let half = 1 << (setting.width - 1);
+    let mut ends = vec![0, bound, -bound, half, -half, 2 * half, -2 * half, alpha, -alpha];
+    if setting.form() == Form::Bias {
+        ends.extend([bias_bound, -bias_bound]);
+    }
+    let near = ends.iter().flat_map(|&end| end - 2..=end + 2);
+    let middle = i64::from(P / 2);
+    let entries: Vec<i64> = near.chain(-middle..=-middle + 1).chain(middle - 1..=middle).collect();
+    for record in 0..case.ticket.len() / 8 {
+        let former = case.ticket.clone();
+        for &entry in &entries {
+            // The same record in the parts, and whether it is in range.
+            let mut parts = right.clone();
+            let (place, in_range, number) = if record < a {
+                (&mut parts.a[record], entry.abs() <= bound, 7)
+            } else if record < a + b {
+                (&mut parts.b[record - a], entry.abs() <= bound, 7)
+            } else if record < a + b + bias {
+                (&mut parts.bias[record - a - b], entry.abs() <= bias_bound, 18)
+            } else if record < a + b + bias + claims {
+                let place = &mut parts.quotients[record - a - b - bias];
+                (place, (-half..half).contains(&entry), 8)
+            } else {
+                let place = &mut parts.remainders[record - a - b - bias - claims];
+                (place, (0..alpha).contains(&entry), 9)
+            };
+            *place = entry;
+            set_value(&mut case.ticket, record, residue(entry));
+            let (by_list, in_full) = if in_range {
+                (by_sums(setting, &parts, &case.list), full_by_sums(setting, &parts))
+            } else {
+                (refused(number, record), refused(number, record))
+            };
+            case.expected = Some(by_list);
+            visit.challenge(&case);
+            visit.full(case.what, setting, &case.ticket, Some(in_full));
         }
-        let near = ends.iter().flat_map(|&end| end - 2..=end + 2);
-        let middle = i64::from(P / 2);
-        let entries: Vec<i64> = near.chain(-middle..=-middle + 1).chain(middle - 1..=middle).collect();
-        for record in 0..case.ticket.len() / 8 {
-            let former = case.ticket.clone();
-            for &entry in &entries {
-                // The same record in the parts, and whether it is in range.
-                let mut parts = right.clone();
-                let (place, in_range, number) = if record < a {
-                    (&mut parts.a[record], entry.abs() <= bound, 7)
-                } else if record < a + b {
-                    (&mut parts.b[record - a], entry.abs() <= bound, 7)
-                } else if record < a + b + bias {
-                    (&mut parts.bias[record - a - b], entry.abs() <= bias_bound, 18)
-                } else if record < a + b + bias + claims {
-                    let place = &mut parts.quotients[record - a - b - bias];
-                    (place, (-half..half).contains(&entry), 8)
-                } else {
-                    let place = &mut parts.remainders[record - a - b - bias - claims];
-                    (place, (0..alpha).contains(&entry), 9)
-                };
-                *place = entry;
-                set_value(&mut case.ticket, record, residue(entry));
-                let (by_list, in_full) = if in_range {
-                    (by_sums(&setting, &parts, &case.list), full_by_sums(&setting, &parts))
-                } else {
-                    (refused(number, record), refused(number, record))
-                };
-                case.expected = Some(by_list);
-                visit.challenge(&case);
-                visit.full(case.what, &setting, &case.ticket, Some(in_full));
-            }
-            for value in [P, P + 1, 1 << 31, 2 * (P - 1), 2 * P, u32::MAX] {
-                set_value(&mut case.ticket, record, value);
-                case.expected = Some(refused(6, record));
-                visit.checks(&case);
-            }
-            case.ticket = former;
+        for value in [P, P + 1, 1 << 31, 2 * (P - 1), 2 * P, u32::MAX] {
+            set_value(&mut case.ticket, record, value);
+            case.expected = Some(refused(6, record));
+            visit.checks(&case);
         }
+        case.ticket = former;
     }
 }

@@ -4,6 +4,7 @@
 use super::craft::{claims_case, falsify, fields, fitting, k, list, set_value, sizes, sizes_up_to, true_parts, P};
 use crate::cases::{TicketCase, Visitor};
 use crate::generator::Generator;
+use crate::parts::Parts;
 use crate::setting::{Form, Setting};
 
 /// How many random cases there are: fewer of bias tickets, so that the whole
@@ -39,32 +40,28 @@ fn tickets(visit: &mut Visitor, form: Form, seed: u64, count: usize, sizes: fn(&
     let mut generator = Generator::new(seed);
     for _ in 0..count {
         let sizes = sizes(&mut generator);
-        let mut case = within_ranges(&mut generator, form, sizes);
+        let setting = fitting(&mut generator, form, sizes);
+        let (parts, list) = within_ranges(&mut generator, &setting);
+        let mut case = claims_case("within the ranges, random", &setting, &parts, &list);
         if !generator.once_in(3) {
-            let damages = if generator.once_in(4) { 2 } else { 1 };
-            for _ in 0..damages {
-                generator.choose(&DAMAGES)(&mut generator, &mut case);
-            }
-            case.what = "damaged at random";
-            case.expected = None;
+            damage(&mut generator, &mut case);
         }
         visit.checks(&case);
     }
 }
 
 /// A ticket within the ranges, one in two of them false in one place or several,
-/// with a list that is well formed and often has zeros.
-fn within_ranges(generator: &mut Generator, form: Form, sizes_of_ticket: [u32; 4]) -> TicketCase {
-    let setting = fitting(generator, form, sizes_of_ticket);
-    let [rows, _, columns, _] = sizes(&setting);
-    let mut parts = true_parts(generator, &setting);
+/// and a list that is well formed and often has zeros.
+pub fn within_ranges(generator: &mut Generator, setting: &Setting) -> (Parts, Vec<u32>) {
+    let [rows, _, columns, _] = sizes(setting);
+    let mut parts = true_parts(generator, setting);
     if generator.once_in(2) {
         for _ in 0..=generator.below(3) {
             let (i, j) = (generator.below(rows), generator.below(columns));
-            falsify(generator, &setting, &mut parts, i, j);
+            falsify(generator, setting, &mut parts, i, j);
         }
     }
-    let mut list = list(generator, &setting);
+    let mut list = list(generator, setting);
     if generator.once_in(2) {
         let j = generator.below(columns);
         let vectors = generator.below(list.len() / columns + 1);
@@ -72,7 +69,17 @@ fn within_ranges(generator: &mut Generator, form: Form, sizes_of_ticket: [u32; 4
             vector[j] = 0;
         }
     }
-    claims_case("within the ranges, random", &setting, &parts, &list)
+    (parts, list)
+}
+
+/// Damages a case in one way or in two.
+pub fn damage(generator: &mut Generator, case: &mut TicketCase) {
+    let damages = if generator.once_in(4) { 2 } else { 1 };
+    for _ in 0..damages {
+        generator.choose(&DAMAGES)(generator, case);
+    }
+    case.what = "damaged at random";
+    case.expected = None;
 }
 
 type Damage = fn(&mut Generator, &mut TicketCase);

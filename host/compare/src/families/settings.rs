@@ -9,7 +9,7 @@ use crate::parts::{ticket_length, Parts};
 use crate::setting::{Form, Setting};
 
 /// The values to try in a number of the setting.
-fn values(field: &Field) -> Vec<u32> {
+pub fn values(field: &Field) -> Vec<u32> {
     let mut values = vec![
         0,
         1,
@@ -41,8 +41,8 @@ fn values(field: &Field) -> Vec<u32> {
     values
 }
 
-/// The refusal of a setting, by the limits, of which the lowest number decides, and
-/// then by fitting.
+/// The refusal of a setting, by the limits, of which the lowest number decides, then
+/// by o, which is to be below α, and then by fitting.
 pub fn refusal(setting: &Setting) -> Option<Answer> {
     let outside = fields(setting.form())
         .iter()
@@ -54,15 +54,16 @@ pub fn refusal(setting: &Setting) -> Option<Answer> {
         .min();
     match outside {
         Some(number) => Some(refused(number, 0)),
+        None if setting.rounding >= setting.scale => Some(refused(19, 0)),
         None if !fits(setting) => Some(refused(3, 0)),
         None => None,
     }
 }
 
 /// A setting with nothing beside it and with a ticket, a list and operands that
-/// match it, where they are not above this length. The ticket is the one of zeros
-/// only, which is true.
-fn visit_setting(visit: &mut Visitor, setting: Setting, longest: u128) {
+/// match it, where they are not above this length. The ticket is the true one of
+/// zeros.
+pub fn visit_setting(visit: &mut Visitor, setting: Setting, longest: u128) {
     let refusal = refusal(&setting);
     visit.checks(&TicketCase {
         what: "no byte",
@@ -188,15 +189,20 @@ pub fn bias_bounds(form: Form) -> &'static [Option<u32>] {
     }
 }
 
-/// Within the limits: the scales around where m·T² + W + α - 1 ≤ 2^(v-1)·α begins
-/// to hold, those around where 2^v·α < p ends, and the limits themselves.
+/// Within the limits: the scales around where m·T² + W + o + α - 1 ≤ 2^(v-1)·α
+/// begins to hold, those around where 2^v·α < p ends, and the limits themselves.
 fn scales_at_the_edge(setting: &Setting) -> Vec<u32> {
-    let [m, t, w, p] = [setting.inner, setting.bound, setting.greatest_bias(), P].map(i64::from);
+    let [m, t, p] = [setting.inner, setting.bound, P].map(i64::from);
+    let [w, o] = [setting.greatest_bias(), setting.rounding].map(i64::from);
     let width = setting.width;
-    // The first condition is m·T² + W - 1 ≤ (2^(v-1) - 1)·α; for v = 1 it does not
-    // depend on α.
+    // The first condition is m·T² + W + o - 1 ≤ (2^(v-1) - 1)·α; for v = 1 it does
+    // not depend on α.
     let factor = (1 << (width - 1)) - 1;
-    let first = if factor == 0 { 2 } else { (m * t * t + w - 1) / factor };
+    let first = if factor == 0 {
+        2
+    } else {
+        (m * t * t + w + o - 1) / factor
+    };
     let second = (p - 1) >> width;
     let mut scales: Vec<i64> = [first, second]
         .into_iter()

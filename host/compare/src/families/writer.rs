@@ -75,7 +75,7 @@ impl Filling {
 /// An entry, by its row, its column and the bound.
 type Pattern = fn(usize, usize, i64) -> i64;
 
-const PATTERNS: [Pattern; 9] = [
+pub const PATTERNS: [Pattern; 9] = [
     |_, _, bound| bound,
     |_, _, bound| -bound,
     |_, _, _| 0,
@@ -93,7 +93,7 @@ const PATTERNS: [Pattern; 9] = [
 
 /// The parts of the true ticket for operands of these patterns. The bias has that
 /// of B, so that the largest sums have the largest bias.
-fn of_patterns(setting: &Setting, in_a: Pattern, in_b: Pattern) -> Parts {
+pub fn of_patterns(setting: &Setting, in_a: Pattern, in_b: Pattern) -> Parts {
     let [rows, inner, columns, _] = sizes(setting);
     let matrix = |rows: usize, columns: usize, bound: u32, pattern: Pattern| -> Vec<i64> {
         (0..rows * columns)
@@ -109,13 +109,19 @@ fn of_patterns(setting: &Setting, in_a: Pattern, in_b: Pattern) -> Parts {
 /// Writes the true ticket of these parts, into an output of its length or a
 /// longer one. The ticket then goes through the full check and, with a random
 /// list, through the challenge check.
-fn visit_written(visit: &mut Visitor, generator: &mut Generator, what: &'static str, setting: &Setting, parts: &Parts) {
+pub fn visit_written(
+    visit: &mut Visitor,
+    generator: &mut Generator,
+    what: &'static str,
+    setting: &Setting,
+    parts: &Parts,
+) {
     let lists = vec![list(generator, setting)];
     visit_written_with_lists(visit, generator, what, setting, parts, lists);
 }
 
 /// The same with each of these lists, which are well formed.
-fn visit_written_with_lists(
+pub fn visit_written_with_lists(
     visit: &mut Visitor,
     generator: &mut Generator,
     what: &'static str,

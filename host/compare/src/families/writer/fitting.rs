@@ -10,7 +10,7 @@ use crate::setting::{Form, Setting};
 
 const INNER: [u32; 9] = [1, 2, 3, 7, 31, 32, 33, 63, 64];
 
-const SCALES: [u32; 14] = [
+pub const SCALES: [u32; 14] = [
     2, 3, 5, 10, 127, 128, 1000, 4095, 4096, 32_766, 32_767, 32_768, 65_535, 65_536,
 ];
 
@@ -23,7 +23,7 @@ const OUTER: [[u32; 2]; 6] = [[1, 1], [2, 3], [3, 1], [1, 4], [2, 2], [5, 2]];
 
 /// The largest sums, the smallest, those that change between and random ones,
 /// under a setting that fits.
-fn visit_fitting(visit: &mut Visitor, generator: &mut Generator, what: &'static str, setting: &Setting) {
+pub fn visit_fitting(visit: &mut Visitor, generator: &mut Generator, what: &'static str, setting: &Setting) {
     let [all, all_negative, .., rows_of_one_sign, columns_of_one_sign, _] = PATTERNS;
     let of_two = (generator.choose(&PATTERNS), generator.choose(&PATTERNS));
     let pairs = [
@@ -43,7 +43,7 @@ fn visit_fitting(visit: &mut Visitor, generator: &mut Generator, what: &'static 
 }
 
 /// The writer and the full check refuse the setting by this number.
-fn visit_beyond(visit: &mut Visitor, what: &'static str, setting: &Setting, number: u32) {
+pub fn visit_beyond(visit: &mut Visitor, what: &'static str, setting: &Setting, number: u32) {
     let parts = of_patterns(setting, PATTERNS[0], PATTERNS[5]);
     let ticket = parts.ticket(setting);
     let mut case = writer_case(what, setting, &parts, vec![0xC3; ticket.len()]);
@@ -54,7 +54,7 @@ fn visit_beyond(visit: &mut Visitor, what: &'static str, setting: &Setting, numb
 
 /// The largest bound with which the setting fits, or 0. It is put together from
 /// its bits.
-fn largest_bound(setting: &Setting) -> u32 {
+pub fn largest_bound(setting: &Setting) -> u32 {
     let mut bound = 0;
     for bit in (0..15).rev() {
         let larger = bound + (1 << bit);

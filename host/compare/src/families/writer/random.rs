@@ -7,7 +7,7 @@ use crate::families::craft::{fields, fitting, sizes_up_to, true_parts};
 use crate::families::random::{random_setting, rounds};
 use crate::families::settings::refusal;
 use crate::generator::Generator;
-use crate::setting::Form;
+use crate::setting::{Form, Setting};
 
 pub fn small(visit: &mut Visitor, form: Form) {
     operands(visit, form, 841, 60_000, [4, 4, 4, 3]);
@@ -26,21 +26,26 @@ fn operands(visit: &mut Visitor, form: Form, seed: u64, count: usize, most: [u32
     for _ in 0..rounds(form, count) {
         let sizes = sizes_up_to(&mut generator, most);
         let setting = fitting(&mut generator, form, sizes);
-        let parts = true_parts(&mut generator, &setting);
-        if generator.once_in(3) {
-            visit_written(visit, &mut generator, "random operands", &setting, &parts);
-            continue;
-        }
-        let past = generator.below(20);
-        let output = generator.choose(&Filling::ALL).output(&parts.ticket(&setting), past);
-        let mut case = writer_case("spoilt at random", &setting, &parts, output);
-        let damages = if generator.once_in(3) { 2 } else { 1 };
-        for _ in 0..damages {
-            generator.choose(&DAMAGES)(&mut generator, &mut case);
-        }
-        case.expected = None;
-        visit.write(&case);
+        visit_operands(visit, &mut generator, &setting);
     }
+}
+
+/// Random operands under a setting that fits, written or spoilt.
+pub fn visit_operands(visit: &mut Visitor, generator: &mut Generator, setting: &Setting) {
+    let parts = true_parts(generator, setting);
+    if generator.once_in(3) {
+        visit_written(visit, generator, "random operands", setting, &parts);
+        return;
+    }
+    let past = generator.below(20);
+    let output = generator.choose(&Filling::ALL).output(&parts.ticket(setting), past);
+    let mut case = writer_case("spoilt at random", setting, &parts, output);
+    let damages = if generator.once_in(3) { 2 } else { 1 };
+    for _ in 0..damages {
+        generator.choose(&DAMAGES)(generator, &mut case);
+    }
+    case.expected = None;
+    visit.write(&case);
 }
 
 type Damage = fn(&mut Generator, &mut WriterCase);
@@ -123,31 +128,35 @@ fn one_number_of_the_setting(generator: &mut Generator, case: &mut WriterCase) {
     };
 }
 
-/// Settings of random numbers, with operands and an output that match where they
-/// are refused by nothing else and are not long, and with none otherwise.
 pub fn settings(visit: &mut Visitor, form: Form) {
     let mut generator = Generator::new(844);
     for _ in 0..rounds(form, 200_000) {
         let setting = random_setting(&mut generator, form);
-        let refusal = refusal(&setting);
-        let small = [setting.rows, setting.inner, setting.columns]
-            .iter()
-            .all(|&size| size <= 8);
-        let case = if refusal.is_none() && small {
-            let parts = true_parts(&mut generator, &setting);
-            let output = Filling::Index.output(&parts.ticket(&setting), 3);
-            writer_case("a random setting", &setting, &parts, output)
-        } else {
-            WriterCase {
-                what: "a random setting",
-                setting,
-                a: vec![1; generator.below(10)],
-                b: vec![1; generator.below(10)],
-                bias: Vec::new(),
-                output: vec![0xC3; generator.below(100)],
-                expected: refusal.map(Writing::Refusal),
-            }
-        };
-        visit.write(&case);
+        visit_setting(visit, &mut generator, setting);
     }
+}
+
+/// A setting of random numbers, with operands and an output that match where it is
+/// refused by nothing else and they are not long, and with others otherwise.
+pub fn visit_setting(visit: &mut Visitor, generator: &mut Generator, setting: Setting) {
+    let refusal = refusal(&setting);
+    let small = [setting.rows, setting.inner, setting.columns]
+        .iter()
+        .all(|&size| size <= 8);
+    let case = if refusal.is_none() && small {
+        let parts = true_parts(generator, &setting);
+        let output = Filling::Index.output(&parts.ticket(&setting), 3);
+        writer_case("a random setting", &setting, &parts, output)
+    } else {
+        WriterCase {
+            what: "a random setting",
+            setting,
+            a: vec![1; generator.below(10)],
+            b: vec![1; generator.below(10)],
+            bias: Vec::new(),
+            output: vec![0xC3; generator.below(100)],
+            expected: refusal.map(Writing::Refusal),
+        }
+    };
+    visit.write(&case);
 }

@@ -4,6 +4,7 @@
 use super::{writer_case, Filling};
 use crate::cases::{refused, Visitor, WriterCase, Writing};
 use crate::families::craft::{fitting, in_form, shapes, sizes, true_parts, LARGEST, P};
+use crate::families::rounding;
 use crate::generator::Generator;
 use crate::parts::Parts;
 use crate::setting::{Form, Setting};
@@ -190,11 +191,12 @@ fn visit_replaced(visit: &mut Visitor, right: &WriterCase, replaced: &[(usize, i
 }
 
 /// What can be wrong with a call, in the order of the tests.
-#[derive(Clone, Copy)]
+#[derive(Clone, Copy, PartialEq, Eq, PartialOrd, Ord)]
 enum Fault {
     Sizes,
     Others,
     BiasBound,
+    Rounding,
     Fitting,
     LengthOfA,
     LengthOfB,
@@ -230,29 +232,55 @@ const FAULTS_WITH_BIAS: [Fault; 11] = [
     Fault::Output,
 ];
 
+/// The faults of a call of this form with o = 0, and in how many ways each set of
+/// them is tried.
+fn faults(form: Form) -> (&'static [Fault], usize) {
+    match form {
+        Form::Plain => (&FAULTS, 3),
+        Form::Bias => (&FAULTS_WITH_BIAS, 1),
+    }
+}
+
 /// Every set of faults, of a plain ticket in several ways each: the first in the
 /// order of the tests decides.
 pub fn several(visit: &mut Visitor, form: Form) {
-    let (all, ways): (&[Fault], _) = match form {
-        Form::Plain => (&FAULTS, 3),
-        Form::Bias => (&FAULTS_WITH_BIAS, 1),
-    };
+    let (all, ways) = faults(form);
     let mut generator = Generator::new(834);
     let mut settings = settings(&mut generator, form);
     settings.push(in_form(LARGEST, form));
     for setting in settings {
         let right = case_to_spoil(&mut generator, "several refusals at once", &setting);
-        for set in 0..1_usize << all.len() {
-            for _ in 0..ways {
-                let mut case = right.clone();
-                let faults = (0..all.len()).filter(|index| set >> index & 1 == 1);
-                // The first is put in last, and its refusal remains.
-                for index in faults.rev() {
-                    let refusal = spoil(&mut generator, &mut case, all[index]);
-                    case.expected = Some(refusal);
-                }
-                visit.write(&case);
+        visit_sets(visit, &mut generator, &right, all, ways);
+    }
+}
+
+/// The same with an o that is not below α among the faults, under settings with any
+/// o.
+pub fn several_with_rounding(visit: &mut Visitor, form: Form) {
+    let (others, ways) = faults(form);
+    let mut all = others.to_vec();
+    all.push(Fault::Rounding);
+    all.sort();
+    let mut generator = Generator::new(835);
+    for sizes in [[2, 2, 2, 1], [1, 3, 2, 8]] {
+        let setting = rounding::fitting(&mut generator, form, sizes);
+        let right = case_to_spoil(&mut generator, "several refusals at once", &setting);
+        visit_sets(visit, &mut generator, &right, &all, ways);
+    }
+}
+
+/// Every set of these faults, which are in the order of the tests.
+fn visit_sets(visit: &mut Visitor, generator: &mut Generator, right: &WriterCase, all: &[Fault], ways: usize) {
+    for set in 0..1_usize << all.len() {
+        for _ in 0..ways {
+            let mut case = right.clone();
+            let faults = (0..all.len()).filter(|index| set >> index & 1 == 1);
+            // The first is put in last, and its refusal remains.
+            for index in faults.rev() {
+                let refusal = spoil(generator, &mut case, all[index]);
+                case.expected = Some(refusal);
             }
+            visit.write(&case);
         }
     }
 }
@@ -291,6 +319,10 @@ fn spoil(generator: &mut Generator, case: &mut WriterCase, fault: Fault) -> Writ
         Fault::BiasBound => {
             setting.bias_bound = Some(generator.choose(&[(1 << 30) + 1, 1 << 31, u32::MAX]));
             (17, 0)
+        }
+        Fault::Rounding => {
+            setting.rounding = generator.choose(&[setting.scale, setting.scale + 1, P, u32::MAX]);
+            (19, 0)
         }
         Fault::Fitting => {
             // 2^30·α is beyond p for every α.
