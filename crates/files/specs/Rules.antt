@@ -57,8 +57,8 @@ numbersOf (i ∷ j ∷ []) = []
 numbersOf (i ∷ j ∷ k ∷ []) = []
 numbersOf (i ∷ j ∷ k ∷ l ∷ rest) = word i j k l ∷ numbersOf rest
 
--- a setting file of another length is 1; the tests 1 to 9; a challenge file of another length than 4 · s · n is 10; then the
--- challenge check
+-- a setting file of another length is 1; then the reading and range checks; a challenge file of another length than 4 · s · n is 10;
+-- then the challenge check
 unfoldable pub fileCheck : List ℕ → List ℕ → List ℕ → Answer
 fileCheck setting ticket challenge =
     let G = settingOf setting in

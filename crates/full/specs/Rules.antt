@@ -1,5 +1,5 @@
--- The full check (tests 1 to 9 and 16): the rules. They are all that a reader has to believe beside those of the crates below;
--- nothing is proved here. G is a setting, t the bytes of a ticket. The claims are counted row by row: claim c is in row c / n,
+-- The full check (the reading and range checks, and test 16): the rules. They are all that a reader has to believe beside those of the
+-- crates below; nothing is proved here. G is a setting, t the bytes of a ticket. The claims are counted row by row: claim c is in row c / n,
 -- column c % n.
 --
 --   same x y           the integers x and y are equal

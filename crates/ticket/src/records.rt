@@ -32,7 +32,7 @@ struct Form {
     outside: u32,
 }
 
-// The answer of the reading and range checks, tests 1 to 9, 17 and 18; its number is 0 where the ticket passes them.
+// The answer of the reading and range checks, tests 1 to 9 and 17 to 19; its number is 0 where the ticket passes them.
 pub fn read(setting: Setting, ticket: &[u8]) -> Answer
     ensures { λ r. ⌜ r ≡ reading setting (now (ticket .entry)) ⌝ }
 {

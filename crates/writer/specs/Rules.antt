@@ -1,6 +1,6 @@
 -- The ticket writer (tests 1 to 3, 13 to 15 and 17 to 19): the rules. They are all that a reader has to believe beside those of the
 -- crates below; nothing is proved here. G is a setting, A and B the operands and C the bias, each row by row (C is empty where there
--- is none), o the bytes of the output.
+-- is none), b the bytes of the output.
 --
 --   joined n f            f 0, then f 1, .., then f (n - 1): n lists, one after the other
 --   beyondNumber T c x k  c where number k of x is beyond the bound T, else 0
@@ -15,7 +15,7 @@
 --   recordOf κ i j w      the bytes of a record: kind κ, a zero byte, row i, column j, and the value w, little-endian
 --   ticketRecord G A B C k  record k of the ticket
 --   ticketOf G A B C        the ticket
---   outputAfter G A B C o   what the output holds afterwards
+--   outputAfter G A B C b   what the output holds afterwards
 use Prim.Native.Nat.{ℕ, zero, suc, _+_, _-_, _*_, _/_, _%_}
 use mathlib.Core.Bool.{cond}
 use mathlib.Core.List.{List, [], _∷_, _++_}

@@ -1,4 +1,4 @@
--- Every number from 1 to 9, and 17 and 18, is given exactly when its condition holds and no earlier test fails (T3).
+-- Every number from 1 to 9 and from 17 to 19 is given exactly when its condition holds and no earlier test fails (T3).
 --
 --   PassedTo G t k         the setting and the length pass, and every record before k does
 --   Refused G t c k        the condition of the number c with the place k, no earlier test failing: the first test of the setting that
