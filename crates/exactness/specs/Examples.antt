@@ -222,7 +222,7 @@ examples =
     ∷ limits (rounded 4_294_967_295) 19
     ∷ limits (plain (numbers 2 1 8 5 1)) 2
     ∷ limits (both 10 1_073_741_825) 17
-    ∷ limits (both 10 1_073_741_824) 19
+    ∷ limits (both 10 mostBiasBound) 19
     ∷ limits (plain (numbers 2 10 9 5 10)) 19
     ∷ limits (plain (numbers 2 10 9 5 9)) 3
     ∷ limits (plain (numbers 1 10 12 5 7)) 0

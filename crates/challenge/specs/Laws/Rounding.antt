@@ -1,7 +1,7 @@
 -- The challenge check and the rounding number o: with 0 the sides of a row are those without it (O3), and what does not read it.
 --
 --   unrounded-side     with 0, the side of the claims is that of scale times quotient plus remainder
---   Unread G o t x, rounding-unread   the tests of the list, the side of the operands and the products do not read it
+--   Unread G o, rounding-unread   the tests of the list, the side of the operands and the products do not read it
 use Prim.Native.Nat.{ℕ}
 use mathlib.Core.Path.{_≡_, refl, ap}
 use mathlib.Core.List.{List}
@@ -10,7 +10,8 @@ use Rattle.residue.specs.Rules.{modulus, leastResidue}
 use Rattle.algebra.specs.Rules.{sumℤ}
 use Rattle.algebra.specs.Laws.IntegerSums.{sumℤ-cong}
 use Rattle.ticket.specs.declared.setting.Setting.{Setting}
-use Rattle.ticket.specs.Rules.{parts, part, count, start, valueIn, entryA, entryB, entryBias, hasBias, biasBound, biasColumns, quotient, remainder}
+use Rattle.ticket.specs.Rules.{quotient, remainder}
+use Rattle.ticket.specs.Laws.Rounding as ticket
 use Rattle.ticket.specs.Laws.Rounding.{unrounded-claim, rounded}
 use Rattle.challenge.specs.Rules.{challengeAt, listReading, productB, claimSide, operandSide, challengeProducts, caughtProducts}
 
@@ -21,12 +22,19 @@ unfolding claimSide
 unrounded-side G none t x τ i =
     ap (leastResidue modulus) (sumℤ-cong (G .columns) _ _ (λ j l. ap (λ z. z *ℤ pos (challengeAt G x τ j)) (unrounded-claim G none t i j)))
 
-pub record Unread (G : Setting) (o : ℕ) (t x : List ℕ) : Type 0 where
-  pub list : listReading (rounded G o) x ≡ listReading G x
-  pub operands : operandSide (rounded G o) t x ≡ operandSide G t x
+pub record Unread (G : Setting) (o : ℕ) : Type 0 where
+  pub list : (x : List ℕ) → listReading (rounded G o) x ≡ listReading G x
+  pub operands : (t x : List ℕ) (τ i : ℕ) → operandSide (rounded G o) t x τ i ≡ operandSide G t x τ i
   pub accepting : challengeProducts (rounded G o) ≡ challengeProducts G
-  pub catching : caughtProducts (rounded G o) ≡ caughtProducts G
+  pub catching : (τ i : ℕ) → caughtProducts (rounded G o) τ i ≡ caughtProducts G τ i
 
-pub rounding-unread : (G : Setting) (o : ℕ) (t x : List ℕ) → Unread G o t x
-unfolding parts part count start valueIn entryA entryB entryBias hasBias biasBound biasColumns listReading productB operandSide
-rounding-unread G o t x = record { list = refl; operands = refl; accepting = refl; catching = refl }
+pub rounding-unread : (G : Setting) (o : ℕ) → Unread G o
+unfolding listReading productB operandSide
+rounding-unread G o =
+    let same = ticket.rounding-unread G o in
+    record {
+      list = λ x. refl;
+      operands = λ t x τ i. rw (same .entries-A, same .entries-B, same .entries-bias);
+      accepting = rw (same .bias-columns);
+      catching = λ τ i. rw (same .bias-columns);
+    }

@@ -5,8 +5,8 @@
 --   unrounded-claim      what a claim puts for its sum is scale times quotient plus remainder
 --   unrounded-dividend   what is divided for a sum is the sum
 --   rounded G o          the setting G with another rounding number
---   Unread G o t, rounding-unread   the parts, the tests from 4 on, quotients and remainders, what a claim is compared with, and how many
---                        products the sums take, do not read it
+--   Unread G o, rounding-unread   the parts and the length, the tests from 4 on, what the records stand for, the bias, what a claim is
+--                        compared with, and how many products the sums take, do not read it
 use Prim.Native.Nat.{ℕ, _+_, _-_, _*_, _^_, _<_}
 use native.Mathlib.Omega.{arith}
 use mathlib.Core.Path.{_≡_, refl, sym, ap, _∙_}
@@ -60,16 +60,37 @@ rounded G o =
       bias = G .bias;
     }
 
-pub record Unread (G : Setting) (o : ℕ) (t : List ℕ) : Type 0 where
-  pub layout : parts (rounded G o) ≡ parts G
-  pub reading-on : recordsReading (rounded G o) t ≡ recordsReading G t
-  pub quotients : quotient (rounded G o) t ≡ quotient G t
-  pub remainders : remainder (rounded G o) t ≡ remainder G t
-  pub compared : due (rounded G o) t ≡ due G t
+pub record Unread (G : Setting) (o : ℕ) : Type 0 where
+  pub layout : part (rounded G o) ≡ part G
+  pub length : ticketLength (rounded G o) ≡ ticketLength G
+  pub reading-on : recordsReading (rounded G o) ≡ recordsReading G
+  pub entries-A : entryA (rounded G o) ≡ entryA G
+  pub entries-B : entryB (rounded G o) ≡ entryB G
+  pub entries-bias : entryBias (rounded G o) ≡ entryBias G
+  pub quotients : quotient (rounded G o) ≡ quotient G
+  pub remainders : remainder (rounded G o) ≡ remainder G
+  pub bias-bound : biasBound (rounded G o) ≡ biasBound G
+  pub bias-columns : biasColumns (rounded G o) ≡ biasColumns G
+  pub sums : biasedSum (rounded G o) ≡ biasedSum G
+  pub compared : due (rounded G o) ≡ due G
   pub products : sumProducts (rounded G o) ≡ sumProducts G
 
-pub rounding-unread : (G : Setting) (o : ℕ) (t : List ℕ) → Unread G o t
+pub rounding-unread : (G : Setting) (o : ℕ) → Unread G o
 unfolding parts part count start records ticketLength holder partTests recordTests recordsReading valueIn entryA entryB entryBias hasBias biasBound
     biasColumns quotient remainder exactSum biasedSum
-rounding-unread G o t =
-    record { layout = refl; reading-on = refl; quotients = refl; remainders = refl; compared = refl; products = refl }
+rounding-unread G o =
+    record {
+      layout = refl;
+      length = refl;
+      reading-on = refl;
+      entries-A = refl;
+      entries-B = refl;
+      entries-bias = refl;
+      quotients = refl;
+      remainders = refl;
+      bias-bound = refl;
+      bias-columns = refl;
+      sums = refl;
+      compared = refl;
+      products = refl;
+    }
