@@ -8,9 +8,10 @@ use crate::families::claims::{visit_changes, visit_some};
 use crate::families::craft::{counts, in_form, list_without_zero, slack, true_parts, LARGEST, P};
 use crate::families::extremes::{self, visit_entries, visit_values};
 use crate::families::settings::{bias_bounds, refusal};
-use crate::families::true_tickets::{lists, sizes_and_largest};
+use crate::families::true_tickets::sizes_and_largest;
 use crate::families::writer::fitting::{largest_bound, visit_beyond, visit_fitting, SCALES};
-use crate::families::writer::{of_patterns, visit_written, visit_written_with_lists, PATTERNS};
+use crate::families::writer::operands::visit_random_and_extreme;
+use crate::families::writer::visit_written;
 use crate::generator::Generator;
 use crate::parts::Parts;
 use crate::setting::{Form, Setting};
@@ -21,12 +22,7 @@ pub fn many_sizes(visit: &mut Visitor, form: Form) {
     let largest = [LARGEST.rows, LARGEST.inner, LARGEST.columns, LARGEST.vectors];
     for sizes in sizes_and_largest().step_by(5).chain([largest]) {
         let setting = fitting(&mut generator, form, sizes);
-        let parts = true_parts(&mut generator, &setting);
-        let lists = lists(&mut generator, &setting);
-        visit_written_with_lists(visit, &mut generator, "random operands", &setting, &parts, lists);
-        let (in_a, in_b) = (generator.choose(&PATTERNS), generator.choose(&PATTERNS));
-        let parts = of_patterns(&setting, in_a, in_b);
-        visit_written(visit, &mut generator, "extreme operands", &setting, &parts);
+        visit_random_and_extreme(visit, &mut generator, &setting);
     }
 }
 

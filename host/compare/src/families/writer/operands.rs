@@ -6,7 +6,7 @@ use crate::cases::Visitor;
 use crate::families::craft::{fitting, shapes, true_parts};
 use crate::families::true_tickets::{lists, sizes_and_largest};
 use crate::generator::Generator;
-use crate::setting::Form;
+use crate::setting::{Form, Setting};
 
 /// Every corner of the sizes.
 const CORNERS: [[u32; 3]; 8] = [
@@ -25,13 +25,19 @@ pub fn many_sizes(visit: &mut Visitor, form: Form) {
     let mut generator = Generator::new(801);
     for sizes in sizes_and_largest() {
         let setting = fitting(&mut generator, form, sizes);
-        let parts = true_parts(&mut generator, &setting);
-        let lists = lists(&mut generator, &setting);
-        visit_written_with_lists(visit, &mut generator, "random operands", &setting, &parts, lists);
-        let (in_a, in_b) = (generator.choose(&PATTERNS), generator.choose(&PATTERNS));
-        let parts = of_patterns(&setting, in_a, in_b);
-        visit_written(visit, &mut generator, "extreme operands", &setting, &parts);
+        visit_random_and_extreme(visit, &mut generator, &setting);
     }
+}
+
+/// Tickets written under a setting that fits: from random operands, with several
+/// lists, and from two patterns.
+pub fn visit_random_and_extreme(visit: &mut Visitor, generator: &mut Generator, setting: &Setting) {
+    let parts = true_parts(generator, setting);
+    let lists = lists(generator, setting);
+    visit_written_with_lists(visit, generator, "random operands", setting, &parts, lists);
+    let (in_a, in_b) = (generator.choose(&PATTERNS), generator.choose(&PATTERNS));
+    let parts = of_patterns(setting, in_a, in_b);
+    visit_written(visit, generator, "extreme operands", setting, &parts);
 }
 
 /// Every pair of patterns at every corner of the sizes.
