@@ -62,7 +62,7 @@ rounded G o =
 
 pub record Unread (G : Setting) (o : ℕ) : Type 0 where
   pub layout : part (rounded G o) ≡ part G
-  pub length : ticketLength (rounded G o) ≡ ticketLength G
+  pub bytes : ticketLength (rounded G o) ≡ ticketLength G
   pub reading-on : recordsReading (rounded G o) ≡ recordsReading G
   pub entries-A : entryA (rounded G o) ≡ entryA G
   pub entries-B : entryB (rounded G o) ≡ entryB G
@@ -81,7 +81,7 @@ unfolding parts part count start records ticketLength holder partTests recordTes
 rounding-unread G o =
     record {
       layout = refl;
-      length = refl;
+      bytes = refl;
       reading-on = refl;
       entries-A = refl;
       entries-B = refl;

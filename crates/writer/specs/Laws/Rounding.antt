@@ -35,5 +35,5 @@ rounding-unread G o =
     record {
       operands = λ A B C. rw (same .layout, same .bias-bound);
       sums = λ A B C. rw (same .sums, same .bias-columns);
-      answered = rw (same .length);
+      answered = rw (same .bytes);
     }
