@@ -7,6 +7,8 @@ ghost use Rattle.ticket.specs.Rules.{numbered, plain, withBias};
 ghost use Rattle.challenge.specs.Rules.{challengeCheck};
 ghost use Rattle.full.specs.Rules.{fullCheck};
 ghost use Rattle.writer.specs.Rules.{outputAfter, writing};
+ghost use Rattle.quote.specs.Rules.{quoteOf};
+use quote::Quote;
 use ticket::Answer;
 use ticket::BiasSetting;
 use ticket::PlainSetting;
@@ -76,6 +78,20 @@ pub extern "C" fn dikdumar_write_bias_ticket(
         (now (output .entry))) ⌝ }
 {
     write(setting.setting, 1, setting.bias, a, b, bias, output)
+}
+
+#[no_mangle]
+pub extern "C" fn dikdumar_quote_ticket(setting: PlainSetting) -> Quote
+    ensures { λ r. ⌜ r ≡ quoteOf (plain setting) ⌝ }
+{
+    quote::quote_of(setting.plain())
+}
+
+#[no_mangle]
+pub extern "C" fn dikdumar_quote_bias_ticket(setting: BiasSetting) -> Quote
+    ensures { λ r. ⌜ r ≡ quoteOf (withBias (setting .setting) (setting .bias)) ⌝ }
+{
+    quote::quote_of(setting.biased())
 }
 
 // The full check of both kinds. The setting is made here, of the numbers as they came, and the slice anew, so that the compiler copies

@@ -1,5 +1,5 @@
 -- The marked examples a to k, under the setting K, with the bytes of record 8 and of the whole written ticket, and -17 over 10, then K
--- with a bias and K with a rounding number: one table that the checker computes over the rules.
+-- with a bias and K with a rounding number, and quotes: one table that the checker computes over the rules.
 use Prim.Native.Nat.{ℕ, _+_, _-_, _*_, _/_, _%_}
 use mathlib.Core.Path.{_≡_, refl}
 use mathlib.Core.List.{List, [], _∷_, _++_, map}
@@ -10,10 +10,12 @@ use Rattle.algebra.specs.Rules.{sumℤ, matrixProduct, floorDivision}
 use Rattle.ticket.specs.declared.setting.Setting.{Setting}
 use Rattle.ticket.specs.declared.published.PlainSetting.{PlainSetting}
 use Rattle.ticket.specs.declared.Answer.{Answer}
-use Rattle.ticket.specs.Rules.{first, answer, scan, after, firstFailed, sizesWithin, numbersWithin, fits, settingTests, settingNumber, isEntry, shiftedQuotient, parts, part, count, start, records, recordBytes, ticketLength, holder, valueAt, formed, partTests, recordTests, firstRefusal, recordsReading, reading, valueIn, entryA, entryB, quotient, remainder, claim, exactSum, biasedSum, due, plain, withBias, hasBias, biasBound, biasColumns, biasWithin, roundingWithin, mostBiasBound, entryBias, dividend}
+use Rattle.ticket.specs.Rules.{first, answer, scan, after, firstFailed, sizesWithin, scaleAndBoundWithin, numbersWithin, fitsWidth, limitTests, settingTests, settingNumber, isEntry, shiftedQuotient, parts, part, count, start, records, recordBytes, ticketLength, holder, valueAt, formed, partTests, recordTests, firstRefusal, recordsReading, reading, valueIn, entryA, entryB, quotient, remainder, claim, exactSum, biasedSum, due, plain, withBias, hasBias, biasBound, biasColumns, biasWithin, roundingWithin, mostBiasBound, entryBias, dividend}
 use Rattle.ticket.specs.Examples.{trueTicket, biasTicket, roundedTicket}
 use Rattle.challenge.specs.Rules.{listNumber, listReading, productB, claimSide, operandSide, balanced, firstRow, verdict, challengeCheck}
 use Rattle.full.specs.Rules.{same, holds, fullVerdict, fullCheck}
+use Rattle.quote.specs.declared.Quote.{Quote}
+use Rattle.quote.specs.Rules.{smallestWidth, quoteTests, noFigures, quoteOf}
 use Rattle.writer.specs.Rules.{joined, beyondNumber, operandsReading, writing, quotientOf, remainderOf, integersOf, integerIn, recordOf, ticketRecord, ticketOf}
 
 minus : ℕ → ℤ
@@ -115,11 +117,15 @@ roundedBias =
 unrounded : Case
 unrounded = under (rounded 5) [] (minus 2 ∷ pos 3 ∷ pos 2 ∷ minus 1 ∷ []) trueRemainders
 
+-- a quote of these figures: width, bytes, products of a full check and of a challenge check
+figured : ℕ → ℕ → ℕ → ℕ → Quote
+figured v bytes sums challenges = record { number = 0; width = v; length = bytes; full = sums; challenge = challenges }
+
 -- each with what is expected last: where the parts of a ticket start, and which part each of some records is in; the sums S, or S + c,
 -- with which the claims are compared; what the claims put for them; quotients and remainders, as read; the bytes of a
 -- record; u, for a vector, as signed entries; the two sides, for a vector; the answer of the reading and range checks; the answer
 -- of the challenge check; that of the full check; that of the writer for an output of so many bytes; the written ticket; the number of
--- a setting; an integer over a number, rounded down; quotient and remainder of a sum, under a setting
+-- a setting; an integer over a number, rounded down; quotient and remainder of a sum, under a setting; the quote for a setting
 data Example : Type 0 where
   starts : Setting → List ℕ → Example
   held : Setting → List ℕ → List ℕ → Example
@@ -137,6 +143,7 @@ data Example : Type 0 where
   limits : Setting → ℕ → Example
   floors : ℤ → ℕ → ℤ → Example
   rounds : Setting → ℤ → ℤ → ℤ → Example
+  quotes : Setting → Quote → Example
 
 examples : List Example
 examples =
@@ -252,6 +259,23 @@ examples =
     ∷ writes roundedBias (ticket roundedBias)
     ∷ checks roundedBias (1 ∷ 2 ∷ []) (answer 0 0 0 16)
     ∷ checksAll roundedBias (answer 0 0 0 8)
+    -- quotes: K, whose width of 31 or 0 is not read; K with a bias, of which 23 is the largest that 5 bits do for; K with rounding, and both
+    ∷ quotes (setting 2 10 8 31) (figured 5 128 8 12)
+    ∷ quotes (biased 23) (figured 5 160 8 16)
+    ∷ quotes (biased 24) (figured 6 160 8 16)
+    ∷ quotes (rounded 5) (figured 5 128 8 12)
+    ∷ quotes (both 5 18) (figured 5 160 8 16)
+    ∷ quotes (both 5 19) (figured 6 160 8 16)
+    -- the widths that k is about are larger than needed: 1 fits. The largest that is ever quoted is 29
+    ∷ quotes (setting 1 65_536 1 0) (figured 1 96 4 8)
+    ∷ quotes (setting 1 2 23_170 0) (figured 29 96 4 8)
+    ∷ quotes (setting 1 2 23_171 0) (noFigures 20)
+    -- each refusal: 20 last, after 1, 2, 17 and 19
+    ∷ quotes (setting 65 2 32_767 0) (noFigures 1)
+    ∷ quotes (setting 64 1 32_767 0) (noFigures 2)
+    ∷ quotes (withBias (numbers 64 2 32_767 0 2) 1_073_741_825) (noFigures 17)
+    ∷ quotes (withBias (numbers 64 2 32_767 0 2) mostBiasBound) (noFigures 19)
+    ∷ quotes (withBias (numbers 64 2 32_767 0 1) mostBiasBound) (noFigures 20)
     ∷ []
 
 -- of each claim, row by row
@@ -275,16 +299,17 @@ by-rules (answers c n _) = answers c n (writing (c .setting) (c .A) (c .B) (c .b
 by-rules (writes c _) = writes c (ticketOf (c .setting) (c .A) (c .B) (c .bias))
 by-rules (limits G _) = limits G (settingNumber G)
 by-rules (floors z d _) = floors z d (floorDivision z d)
+by-rules (quotes G _) = quotes G (quoteOf G)
 by-rules (rounds G S _ _) =
     let q = floorDivision (dividend G S) (G .scale) in rounds G S q (dividend G S -ℤ pos (G .scale) *ℤ q)
 
 examples-hold : map by-rules examples ≡ examples
-unfolding modulus leastResidue signedEntry sumℤ matrixProduct floorDivision first scan after firstFailed sizesWithin numbersWithin fits
-    settingTests isEntry shiftedQuotient parts part count start records ticketLength holder valueAt formed partTests recordTests firstRefusal
+unfolding modulus leastResidue signedEntry sumℤ matrixProduct floorDivision first scan after firstFailed sizesWithin scaleAndBoundWithin
+    numbersWithin fitsWidth limitTests settingTests isEntry shiftedQuotient parts part count start records ticketLength holder valueAt formed partTests recordTests firstRefusal
     recordsReading reading valueIn entryA entryB quotient remainder claim exactSum biasedSum hasBias biasBound biasColumns biasWithin
     roundingWithin entryBias listNumber listReading productB claimSide operandSide
     balanced firstRow verdict challengeCheck same holds fullVerdict fullCheck joined beyondNumber operandsReading writing quotientOf
     remainderOf integersOf integerIn recordOf ticketRecord ticketOf minus recordsFrom ticket numbers setting biased rounded both under claiming
     biasedBy biasOf biasCase falseBias trueRemainders trueCase changed roundedBy roundedBias unrounded trueTicket biasTicket roundedTicket
-    examples each by-rules
+    smallestWidth quoteTests quoteOf figured examples each by-rules
 examples-hold = refl

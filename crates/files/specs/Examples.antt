@@ -7,7 +7,7 @@ use lib.ListN.{take}
 use Rattle.residue.specs.Rules.{modulus, leastResidue, signedEntry}
 use Rattle.algebra.specs.Rules.{sumℤ}
 use Rattle.ticket.specs.declared.Answer.{Answer}
-use Rattle.ticket.specs.Rules.{answer, first, scan, after, firstFailed, sizesWithin, numbersWithin, fits, settingTests, isEntry, shiftedQuotient, parts, part, count, start, records, ticketLength, holder, valueAt, formed, partTests, recordTests, firstRefusal, recordsReading, reading, valueIn, entryA, entryB, quotient, remainder, claim, hasBias, biasBound, biasColumns, biasWithin, roundingWithin, entryBias}
+use Rattle.ticket.specs.Rules.{answer, first, scan, after, firstFailed, sizesWithin, scaleAndBoundWithin, numbersWithin, fitsWidth, limitTests, settingTests, isEntry, shiftedQuotient, parts, part, count, start, records, ticketLength, holder, valueAt, formed, partTests, recordTests, firstRefusal, recordsReading, reading, valueIn, entryA, entryB, quotient, remainder, claim, hasBias, biasBound, biasColumns, biasWithin, roundingWithin, entryBias}
 use Rattle.ticket.specs.Examples.{trueTicket, roundedTicket}
 use Rattle.challenge.specs.Rules.{listNumber, listReading, productB, claimSide, operandSide, balanced, firstRow, verdict, challengeCheck}
 use Rattle.files.specs.Rules.{wordAt, settingOf, numbersOf, fileCheck, digitsOf, decimal, field, lineOf}
@@ -72,7 +72,7 @@ by-rules (prints s t c _) = prints s t c (lineOf (fileCheck s t c))
 by-rules (spells n _) = spells n (decimal n)
 
 examples-hold : map by-rules examples ≡ examples
-unfolding modulus leastResidue signedEntry sumℤ first scan after firstFailed sizesWithin numbersWithin fits settingTests isEntry
+unfolding modulus leastResidue signedEntry sumℤ first scan after firstFailed sizesWithin scaleAndBoundWithin numbersWithin fitsWidth limitTests settingTests isEntry
     shiftedQuotient parts part count start records ticketLength holder valueAt formed partTests recordTests firstRefusal recordsReading
     reading valueIn entryA entryB quotient remainder claim hasBias biasBound biasColumns biasWithin roundingWithin entryBias
     listNumber listReading productB claimSide operandSide balanced firstRow

@@ -18,6 +18,7 @@
 --   Decodes       what entries and claims are decoded to
 --   Kinds         settings without a bias, and with one (B1, B3); where test 19 stands (O1)
 --   Rounding      settings whose rounding number is 0 (O3)
+--   Widths        a setting with another width (Q1)
 pub mod First
 pub mod Scans
 pub mod Answers
@@ -36,3 +37,4 @@ pub mod Differences
 pub mod Decodes
 pub mod Kinds
 pub mod Rounding
+pub mod Widths

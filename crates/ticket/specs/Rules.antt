@@ -18,7 +18,9 @@
 --   biasColumns G        the columns of the bias: as many as those of the claims, 0 where there is none
 --   reach G              the largest size of what a claim is compared with
 --   halfRange G          half of the quotients' range
---   sizesWithin G, numbersWithin G, biasWithin G, roundingWithin G, fits G   the limits and the fit
+--   sizesWithin G, scaleAndBoundWithin G, numbersWithin G, biasWithin G, roundingWithin G   the limits
+--   fitsWidth G v, fits G   the setting fits with the width v, and with its own
+--   limitTests G c       tests 1, 2, 17 and 19, in order; c says whether test 2 holds
 --   settingTests G       tests 1, 2, 17, 19 and 3, in order
 --   settingNumber G      the first of them that fails, 0 where none does
 --   sumProducts G        how many products all exact sums take
@@ -58,7 +60,7 @@
 use Prim.Native.Nat.{ℕ, zero, suc, _+_, _-_, _*_, _/_, _%_, _^_, _<_}
 use mathlib.Core.Path.{_≡_}
 use mathlib.Core.Bool.{Bool, false, cond, _&&_}
-use mathlib.Core.List.{List, [], _∷_}
+use mathlib.Core.List.{List, [], _∷_, _++_}
 use lib.Dec.{leb, ltb, eqb}
 use lib.ListN.{length, getD, take}
 use lib.IntN.{ℤ, pos, natAbs, _+ℤ_, _-ℤ_, _*ℤ_}
@@ -176,8 +178,11 @@ sizesWithin G =
     && within 1 mostColumns (G .columns)
     && within 1 mostVectors (G .vectors)
 
+unfoldable pub scaleAndBoundWithin : Setting → Bool
+scaleAndBoundWithin G = within 2 mostScale (G .scale) && within 1 mostBound (G .bound)
+
 unfoldable pub numbersWithin : Setting → Bool
-numbersWithin G = within 2 mostScale (G .scale) && within 1 mostBound (G .bound) && within 1 mostWidth (G .width)
+numbersWithin G = scaleAndBoundWithin G && within 1 mostWidth (G .width)
 
 unfoldable pub biasWithin : Setting → Bool
 biasWithin G = leb (biasBound G) mostBiasBound
@@ -185,17 +190,22 @@ biasWithin G = leb (biasBound G) mostBiasBound
 unfoldable pub roundingWithin : Setting → Bool
 roundingWithin G = ltb (G .rounding) (G .scale)
 
-unfoldable pub fits : Setting → Bool
-fits G = leb (reach G + G .rounding + G .scale - 1) (halfRange G * G .scale) && ltb (2 ^ G .width * G .scale) modulus
+unfoldable pub fitsWidth : Setting → ℕ → Bool
+fitsWidth G v = leb (reach G + G .rounding + G .scale - 1) (2 ^ (v - 1) * G .scale) && ltb (2 ^ v * G .scale) modulus
 
-unfoldable pub settingTests : Setting → List Test
-settingTests G =
+abbrev pub fits : Setting → Bool
+fits G = fitsWidth G (G .width)
+
+unfoldable pub limitTests : Setting → Bool → List Test
+limitTests G numbers =
     test (sizesWithin G) 1
-    ∷ test (numbersWithin G) 2
+    ∷ test numbers 2
     ∷ test (biasWithin G) 17
     ∷ test (roundingWithin G) 19
-    ∷ test (fits G) 3
     ∷ []
+
+unfoldable pub settingTests : Setting → List Test
+settingTests G = limitTests G (numbersWithin G) ++ (test (fits G) 3 ∷ [])
 
 abbrev pub settingNumber : Setting → ℕ
 settingNumber G = firstFailed (settingTests G)

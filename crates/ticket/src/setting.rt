@@ -5,6 +5,7 @@ ghost use Prim.Native.Nat.{_+_, _*_, min};
 ghost use Rattle.ticket.specs.Rules.{unless, sizesWithin, numbersWithin, biasWithin, roundingWithin, within};
 ghost use Rattle.ticket.specs.Rules.{biasBound, biasColumns, part, partSize, start, ticketLength, halfRange, sumProducts};
 ghost use Rattle.ticket.specs.Laws.Limits.{Sizes, Numbers, Clamped, clamped, fitsBy, numberBy};
+ghost use Rattle.ticket.specs.Laws.Widths.{widened};
 use crate::parts::RECORD;
 use residue::Residue;
 
@@ -58,7 +59,7 @@ impl Setting {
 
     const MOST_BOUND: u32 = 32_767;
 
-    const MOST_WIDTH: u32 = 30;
+    pub const MOST_WIDTH: u32 = 30;
 
     const MOST_BIAS_BOUND: u32 = 32_768 * 32_768;
 
@@ -82,6 +83,14 @@ impl Setting {
         let fitting = unless(self.fits(half), 3, 0);
         let rounding = unless(self.rounding_within(), 19, fitting);
         unless(self.bias_within(), 17, rounding)
+    }
+
+    // The setting with another width.
+    pub fn with_width(mut self, width: u32) -> Setting
+        ensures { λ r. ⌜ r ≡ widened self width ⌝ }
+    {
+        self.width = width;
+        self
     }
 
     // The largest absolute value of a bias entry; 0 where there is no bias.

@@ -8,7 +8,7 @@ use mathlib.Core.Path.{_≡_, sym, subst}
 use mathlib.Core.List.{List}
 use lib.ListN.{length, replicate, length-replicate}
 use Rattle.ticket.specs.declared.setting.Setting.{Setting}
-use Rattle.ticket.specs.Laws.Limits.{setting-row}
+use Rattle.ticket.specs.Laws.Limits.{sizes-row, limit-row}
 use Rattle.ticket.specs.Laws.Refusals.{by-setting-row}
 use Rattle.challenge.specs.Rules.{challengeCheck}
 use Rattle.soundness.specs.Laws.Answers.{TableRow, reading-row, answer-in-table}
@@ -32,7 +32,7 @@ module _ (s t c : List ℕ) where
   pub file-answer-in-table : TableRow G (fileCheck s t c)
   file-answer-in-table =
       elim (ℕ-discrete (length s) settingBytes) [
-        | no d ↦ subst (TableRow G) (setting-file-refused s t c d) (reading-row (by-setting-row (setting-row 1 (omega arith) (omega arith))))
+        | no d ↦ subst (TableRow G) (setting-file-refused s t c d) (reading-row (by-setting-row (limit-row sizes-row)))
         | yes right ↦
             elim (ℕ-discrete (length c) (numberBytes * (G .vectors * G .columns))) [
               | yes e ↦ subst (TableRow G) (sym (as-call s t c right e)) (answer-in-table G t (numbersOf c))

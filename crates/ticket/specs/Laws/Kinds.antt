@@ -22,7 +22,7 @@ use Rattle.residue.specs.Rules.{modulus, signedEntry}
 use Rattle.residue.specs.Laws.Modulus.{modulus-below}
 use Rattle.ticket.specs.declared.published.PlainSetting.{PlainSetting}
 use Rattle.ticket.specs.declared.setting.Setting.{Setting}
-use Rattle.ticket.specs.Rules.{test, firstFailed, plain, withBias, hasBias, biasBound, biasColumns, biasWithin, roundingWithin, mostBiasBound, reach, halfRange, sizesWithin, numbersWithin, fits, settingTests, settingNumber, parts, partSize, part, start, records, holder, ticketLength, ofA, ofB, ofBias, ofQuotients, ofRemainders, valueIn, entryA, entryB, exactSum, biasedSum, due}
+use Rattle.ticket.specs.Rules.{test, firstFailed, plain, withBias, hasBias, biasBound, biasColumns, biasWithin, roundingWithin, mostBiasBound, reach, halfRange, sizesWithin, numbersWithin, fitsWidth, fits, limitTests, settingTests, settingNumber, parts, partSize, part, start, records, holder, ticketLength, ofA, ofB, ofBias, ofQuotients, ofRemainders, valueIn, entryA, entryB, exactSum, biasedSum, due}
 use Rattle.ticket.specs.Laws.Differences.{bias-entry, no-bias-entry}
 use Rattle.ticket.specs.Laws.Layout.{parts-are, held, length-is}
 use Rattle.ticket.specs.Laws.Limits.{Numbers, with-bias, without-bias, range-double}
@@ -88,7 +88,7 @@ module _ (P : PlainSetting) where
       ∷ test (leb (P .inner * (P .bound * P .bound) + P .rounding + P .scale - 1) (2 ^ (P .width - 1) * P .scale)
       && ltb (2 ^ P .width * P .scale) modulus) 3
       ∷ [])
-  unfolding settingTests biasWithin roundingWithin fits firstFailed
+  unfolding settingTests limitTests biasWithin roundingWithin fitsWidth firstFailed
   plain-tests =
       let sum = P .inner * (P .bound * P .bound) in
       let same : sum + biasBound G + P .rounding + P .scale - 1 ≡ sum + P .rounding + P .scale - 1 = omega (arith, none .0) in
@@ -118,7 +118,7 @@ module _ (P : PlainSetting) (W : ℕ) where
       ∷ test (leb (P .inner * (P .bound * P .bound) + W + P .rounding + P .scale - 1) (2 ^ (P .width - 1) * P .scale)
       && ltb (2 ^ P .width * P .scale) modulus) 3
       ∷ [])
-  unfolding settingTests biasWithin roundingWithin fits
+  unfolding settingTests limitTests biasWithin roundingWithin fitsWidth
   bias-tests = rw (some .0)
 
   pub bias-due : (t : List ℕ) (i j : ℕ)
@@ -128,7 +128,7 @@ module _ (P : PlainSetting) (W : ℕ) where
   bias-due t i j = ap (λ z. exactSum H (entryA H t) (entryB H t) i j +ℤ z) (bias-entry H t i j (bias-some P W))
 
 pub largest-bias-unfit : (G : Setting) → biasBound G ≡ mostBiasBound → Numbers G → (biasWithin G ≡ true) × (fits G ≡ false)
-unfolding biasWithin fits
+unfolding biasWithin fitsWidth
 largest-bias-unfit G most numbers = (
   le-leb (biasBound G) mostBiasBound (omega arith),
   elim (decLt (2 ^ G .width * G .scale) modulus) [

@@ -8,7 +8,8 @@
 --   sizes-of, numbers-of   the first two, from their tests
 --   Within G, limits-of    all three, from the tests of the setting
 --   setting-numbered       the numbers of the tests
---   SettingRow G c, setting-in-table   c is a number of the published table for a setting, and so is that of a test that fails
+--   LimitRow G c, limit-in-table   c is a number of the published table for the limits of a setting, and so is that of a test that fails
+--   SettingRow G c, setting-in-table   likewise for all tests of a setting
 --   setting-holds          they all hold, where the number of the setting is 0
 --   bias-flag, no-bias-flag   whether there is a bias
 --   with-bias, without-bias   bound and columns of the bias, where there is one and where there is none
@@ -22,6 +23,7 @@
 --   range-double           twice that half times the scale, as the fit has it
 --   lift-small             the lift, and the largest size of a sum, are together below p, where the setting fits
 --   bias-small             and so is twice the bound of its bias
+--   renumbered G v o       the setting G with another width and rounding number
 --   clamped G              the setting with no size, scale or width above its limit
 --   clamped-same           that is the setting itself, where it is within its limits
 --   fitsBy G h, numberBy G h   the fit and the number of the setting, where h is put for half of the quotients' range
@@ -31,7 +33,7 @@
 use Prim.Native.Nat.{ℕ, suc, _+_, _-_, _*_, _^_, _≤_, _<_, min}
 use native.Mathlib.Nat.{le-trans, mul-le-mul, pow-suc, min-eq-left, min-le-right}
 use native.Mathlib.Omega.{arith}
-use mathlib.Core.Path.{_≡_, refl, sym, ap, _∙_}
+use mathlib.Core.Path.{_≡_, refl, sym, ap, subst, _∙_}
 use mathlib.Core.Bool.{Bool, true, false, true≢false, _&&_, and-eq-true-iff}
 use mathlib.Core.Logic.{inl, inr, ⊎-elim}
 use borrow.Author.Tests.{leb-true, ltb-true, le-leb, lt-ltb, le-ltb}
@@ -39,9 +41,9 @@ use lib.Dec.{leb, ltb}
 use lib.Pow.{pow-mono}
 use Rattle.residue.specs.Rules.{modulus}
 use Rattle.ticket.specs.declared.setting.Setting.{Setting}
-use Rattle.ticket.specs.Rules.{unless, firstFailed, within, mostRows, mostInner, mostColumns, mostVectors, mostScale, mostBound, mostWidth, mostBiasBound, biasWithin, roundingWithin, reach, halfRange, sizesWithin, numbersWithin, fits, settingTests, settingNumber, sumProducts, hasBias, biasBound, biasColumns}
+use Rattle.ticket.specs.Rules.{unless, test, firstFailed, within, mostRows, mostInner, mostColumns, mostVectors, mostScale, mostBound, mostWidth, mostBiasBound, biasWithin, roundingWithin, reach, halfRange, sizesWithin, scaleAndBoundWithin, numbersWithin, fitsWidth, fits, limitTests, settingTests, settingNumber, sumProducts, hasBias, biasBound, biasColumns}
 use Rattle.ticket.specs.Laws.First.{true-or-false}
-use Rattle.ticket.specs.Laws.Tests.{AllHold, Failed, here, later, first-holds, rest-hold, Numbered, tests-hold}
+use Rattle.ticket.specs.Laws.Tests.{AllHold, Failed, here, later, first-holds, rest-hold, Numbered, tests-hold, failed-split}
 
 pub both : (a b : Bool) → (a && b) ≡ true → (a ≡ true) × (b ≡ true)
 both a b e = and-eq-true-iff a b .0 e
@@ -125,14 +127,14 @@ sizes-of G e =
     record { rows = within-both (l .0); inner = within-both (l .1); columns = within-both (k .1); vectors = within-both (h .1) }
 
 pub numbers-of : (G : Setting) → numbersWithin G ≡ true → Numbers G
-unfolding numbersWithin
+unfolding numbersWithin scaleAndBoundWithin
 numbers-of G e =
     let h = both _ _ e in
     let k = both _ _ (h .0) in
     record { scale = within-both (k .0); bound = within-both (k .1); width = within-both (h .1) }
 
 fitted-of : (G : Setting) → fits G ≡ true → Fitted G
-unfolding fits
+unfolding fitsWidth
 fitted-of G e = let h = both _ _ e in record { sums = leb-true _ _ (h .0); claims = ltb-true _ _ (h .1) }
 
 pub record Within (G : Setting) : Type 0 where
@@ -141,14 +143,14 @@ pub record Within (G : Setting) : Type 0 where
   pub fitted : Fitted G
 
 pub limits-of : (G : Setting) → AllHold (settingTests G) → Within G
-unfolding settingTests
+unfolding settingTests limitTests
 limits-of G h =
     let rest = rest-hold h in
     let last = rest-hold (rest-hold (rest-hold rest)) in
     record { sizes = sizes-of G (first-holds h); numbers = numbers-of G (first-holds rest); fitted = fitted-of G (first-holds last) }
 
 pub setting-numbered : (G : Setting) → Numbered (settingTests G)
-unfolding settingTests Numbered
+unfolding settingTests limitTests Numbered
 setting-numbered G = (
   (omega arith, inl (omega arith)),
   ((omega arith, inl (omega arith)), ((omega arith, inr (omega arith)), ((omega arith, inr (omega arith)), ((omega arith, inl (omega arith)), tt)))),
@@ -158,21 +160,31 @@ pub setting-holds : (G : Setting) → settingNumber G ≡ 0 → AllHold (setting
 setting-holds G e = tests-hold (settingTests G) (setting-numbered G) e
 
 -- only a setting with a bias has the number 17
-pub data SettingRow (G : Setting) : ℕ → Type 0 where
-  setting-row : (c : ℕ) → 1 ≤ c → c ≤ 3 → SettingRow G c
-  bias-bound-row : hasBias G ≡ true → SettingRow G 17
-  rounding-row : SettingRow G 19
+pub data LimitRow (G : Setting) : ℕ → Type 0 where
+  sizes-row : LimitRow G 1
+  numbers-row : LimitRow G 2
+  bias-bound-row : hasBias G ≡ true → LimitRow G 17
+  rounding-row : LimitRow G 19
 
-pub setting-in-table : (G : Setting) {c : ℕ} → Failed (settingTests G) c → SettingRow G c
-unfolding settingTests biasWithin
-setting-in-table G (here e) = setting-row 1 (omega arith) (omega arith)
-setting-in-table G (later a (here e)) = setting-row 2 (omega arith) (omega arith)
-setting-in-table G (later a (later b (here e))) =
+pub limit-in-table : (G : Setting) (numbers : Bool) {c : ℕ} → Failed (limitTests G numbers) c → LimitRow G c
+unfolding limitTests biasWithin
+limit-in-table G numbers (here e) = sizes-row
+limit-in-table G numbers (later a (here e)) = numbers-row
+limit-in-table G numbers (later a (later b (here e))) =
     ⊎-elim bias-bound-row
     (λ none. absurd (true≢false (sym (le-leb (biasBound G) mostBiasBound (omega (arith, without-bias G none .0))) ∙ e)))
     (true-or-false (hasBias G))
-setting-in-table G (later a (later b (later c (here e)))) = rounding-row
-setting-in-table G (later a (later b (later c (later d (here e))))) = setting-row 3 (omega arith) (omega arith)
+limit-in-table G numbers (later a (later b (later c (here e)))) = rounding-row
+
+pub data SettingRow (G : Setting) : ℕ → Type 0 where
+  limit-row : {c : ℕ} → LimitRow G c → SettingRow G c
+  fit-row : SettingRow G 3
+
+pub setting-in-table : (G : Setting) {c : ℕ} → Failed (settingTests G) c → SettingRow G c
+unfolding settingTests
+setting-in-table G f =
+    ⊎-elim (λ g. limit-row (limit-in-table G (numbersWithin G) g)) (λ g. subst (SettingRow G) (g .2) fit-row)
+    (failed-split (test (fits G) 3) (limitTests G (numbersWithin G)) f)
 
 pub half-small : {G : Setting} → Numbers G → halfRange G ≤ 2 ^ 29
 half-small {G} numbers = pow-mono {j = 29} (omega arith)
@@ -198,6 +210,21 @@ lift-small numbers fitted = omega (arith, range-double numbers, fitted, numbers 
 
 pub bias-small : {G : Setting} → Numbers G → Fitted G → 2 * biasBound G < modulus
 bias-small numbers fitted = omega (arith, range-double numbers, fitted, numbers .scale)
+
+abbrev pub renumbered : Setting → ℕ → ℕ → Setting
+renumbered G v o =
+    record {
+      rows = G .rows;
+      inner = G .inner;
+      columns = G .columns;
+      vectors = G .vectors;
+      scale = G .scale;
+      bound = G .bound;
+      width = v;
+      rounding = o;
+      biased = G .biased;
+      bias = G .bias;
+    }
 
 -- total calls
 
@@ -231,7 +258,7 @@ numberBy G half =
     (unless (numbersWithin G) 2 (unless (biasWithin G) 17 (unless (roundingWithin G) 19 (unless (fitsBy G half) 3 0))))
 
 pub number-by : (G : Setting) {half : ℕ} → half ≡ halfRange (clamped G) → numberBy G half ≡ settingNumber G
-unfolding numberBy settingTests firstFailed fits
+unfolding numberBy settingTests limitTests firstFailed fitsWidth
 number-by G half-is =
     ⊎-elim
     (λ sizes. ⊎-elim

@@ -18,9 +18,9 @@ use lib.Dec.{leb, ltb}
 use lib.IntN.{ℤ, pos, _+ℤ_, _-ℤ_, _*ℤ_, +ℤ-idr, +ℤ-negℤ-cancel}
 use Rattle.residue.specs.Rules.{modulus}
 use Rattle.ticket.specs.declared.setting.Setting.{Setting}
-use Rattle.ticket.specs.Rules.{test, firstFailed, reach, halfRange, sizesWithin, numbersWithin, biasWithin, roundingWithin, fits, settingTests, settingNumber, sumProducts, parts, part, count, start, records, ticketLength, holder, partTests, recordTests, recordsReading, valueIn, entryA, entryB, entryBias, hasBias, biasBound, biasColumns, quotient, remainder, claim, exactSum, biasedSum, due, dividend}
+use Rattle.ticket.specs.Rules.{test, firstFailed, reach, halfRange, sizesWithin, numbersWithin, biasWithin, roundingWithin, fitsWidth, limitTests, settingTests, settingNumber, sumProducts, parts, part, count, start, records, ticketLength, holder, partTests, recordTests, recordsReading, valueIn, entryA, entryB, entryBias, hasBias, biasBound, biasColumns, quotient, remainder, claim, exactSum, biasedSum, due, dividend}
 use Rattle.ticket.specs.Laws.First.{true-or-false}
-use Rattle.ticket.specs.Laws.Limits.{numbers-of}
+use Rattle.ticket.specs.Laws.Limits.{numbers-of, renumbered}
 
 module _ (G : Setting) (none : G .rounding ≡ 0) where
   pub unrounded-tests : settingNumber G ≡ firstFailed (
@@ -29,7 +29,7 @@ module _ (G : Setting) (none : G .rounding ≡ 0) where
       ∷ test (biasWithin G) 17
       ∷ test (leb (reach G + G .scale - 1) (halfRange G * G .scale) && ltb (2 ^ G .width * G .scale) modulus) 3
       ∷ [])
-  unfolding settingTests roundingWithin fits firstFailed
+  unfolding settingTests limitTests roundingWithin fitsWidth firstFailed
   unrounded-tests =
       let same : reach G + G .rounding + G .scale - 1 ≡ reach G + G .scale - 1 = omega (arith, none) in
       ⊎-elim
@@ -46,19 +46,7 @@ module _ (G : Setting) (none : G .rounding ≡ 0) where
       ap (λ z. z -ℤ pos (G .rounding)) (sym (unrounded-dividend made)) ∙ +ℤ-negℤ-cancel made (pos (G .rounding))
 
 abbrev pub rounded : Setting → ℕ → Setting
-rounded G o =
-    record {
-      rows = G .rows;
-      inner = G .inner;
-      columns = G .columns;
-      vectors = G .vectors;
-      scale = G .scale;
-      bound = G .bound;
-      width = G .width;
-      rounding = o;
-      biased = G .biased;
-      bias = G .bias;
-    }
+rounded G o = renumbered G (G .width) o
 
 pub record Unread (G : Setting) (o : ℕ) : Type 0 where
   pub layout : part (rounded G o) ≡ part G

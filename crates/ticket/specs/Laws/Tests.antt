@@ -12,13 +12,15 @@
 --   tests-hold         all hold, where the number is 0 and that of no test is
 --   same-test          two comparisons that say the same are equal
 --   first-holds, rest-hold   the first of several tests that all hold does, and so do the others
+--   hold-then, failed-before, failed-last   the tests of l and then T: all hold, or one of l fails first, or T alone fails
+--   failed-split       where one fails first, it is one of l, or T after all of l
 use Prim.Native.Nat.{ℕ, _≤_, _<_}
 use native.Mathlib.Decide.{decLe}
 use native.Mathlib.Omega.{arith}
 use mathlib.Core.Logic.{_⊎_, inl, inr, ⊎-elim}
 use mathlib.Core.Path.{_≡_, refl, sym, _∙_}
 use mathlib.Core.Bool.{true, false}
-use mathlib.Core.List.{List, [], _∷_}
+use mathlib.Core.List.{List, [], _∷_, _++_}
 use borrow.Author.Tests.{le-leb, lt-leb, lt-ltb, le-ltb}
 use lib.Dec.{leb, ltb}
 use Rattle.ticket.specs.Rules.{Test, firstFailed}
@@ -47,6 +49,25 @@ first-holds (one h r) = h
 
 pub rest-hold : {T : Test} {rest : List Test} → AllHold (T ∷ rest) → AllHold rest
 rest-hold (one h r) = r
+
+module _ (T : Test) where
+  pub hold-then : {l : List Test} → AllHold l → T .holds ≡ true → AllHold (l ++ (T ∷ []))
+  hold-then none e = one e none
+  hold-then (one h r) e = one h (hold-then r e)
+
+  pub failed-before : {l : List Test} {c : ℕ} → Failed l c → Failed (l ++ (T ∷ [])) c
+  failed-before (here e) = here e
+  failed-before (later h f) = later h (failed-before f)
+
+  pub failed-last : {l : List Test} → AllHold l → T .holds ≡ false → Failed (l ++ (T ∷ [])) (T .number)
+  failed-last none e = here e
+  failed-last (one h r) e = later h (failed-last r e)
+
+  pub failed-split : (l : List Test) {c : ℕ} → Failed (l ++ (T ∷ [])) c → Failed l c ⊎ (AllHold l × (T .holds ≡ false) × (T .number ≡ c))
+  failed-split [] (here e) = inr (none, e, refl)
+  failed-split (S ∷ rest) (here e) = inl (here e)
+  failed-split (S ∷ rest) (later h f) =
+      ⊎-elim (λ g. inl (later h g)) (λ g. inr (one h (g .0), g .1, g .2)) (failed-split rest f)
 
 pub hold-or-failed : (l : List Test) → AllHold l ⊎ ((c : ℕ) × Failed l c)
 hold-or-failed [] = inl none
