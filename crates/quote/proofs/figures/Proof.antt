@@ -18,8 +18,8 @@ cast-length c =
 returns : tie.Need-returns
 returns c =
     let made = c .before in
-    let start = made .before .before in
-    rw (made .before .length .ensures, made .products .ensures, c .challenge-products .ensures, same start)
+    let long = made .before in
+    rw (long .length .ensures, made .products .ensures, c .challenge-products .ensures, same (long .before))
 
 pub figures-spec : {M : Type 1} → statement M
 figures-spec = tie.close (tie.spec (λ c κs. search needs) cast-length (λ c κs. search needs) (λ c κs. search needs) returns)

@@ -5,13 +5,17 @@
 --   Unread G v, width-unread   the limits but for that of the width, the fit with a given width, the bytes of a ticket, the columns of the
 --                        bias and how many products the sums take do not read it
 --   widened-number       with a width within its limits, the number is by the limits of all else, and the fit
-use Prim.Native.Nat.{ℕ, _≤_}
+--   largest-width-unfit  no setting of a scale within its limits fits with the largest width
+use Prim.Native.Nat.{ℕ, _*_, _^_, _≤_}
+use native.Mathlib.Omega.{arith}
 use mathlib.Core.Path.{_≡_, refl}
-use mathlib.Core.Bool.{true, and-true}
+use mathlib.Core.Bool.{false, and-true, and-false}
 use mathlib.Core.List.{[], _∷_, _++_}
-use borrow.Author.Tests.{le-leb}
+use borrow.Author.Tests.{le-leb, le-ltb}
+use Rattle.residue.specs.Rules.{modulus}
+use Rattle.residue.specs.Laws.Modulus.{modulus-below}
 use Rattle.ticket.specs.declared.setting.Setting.{Setting}
-use Rattle.ticket.specs.Rules.{test, firstFailed, within, mostWidth, sizesWithin, scaleAndBoundWithin, numbersWithin, biasWithin, roundingWithin, fitsWidth, limitTests, settingTests, settingNumber, sumProducts, hasBias, biasBound, biasColumns, parts, count, records, ticketLength}
+use Rattle.ticket.specs.Rules.{test, firstFailed, mostWidth, sizesWithin, scaleAndBoundWithin, numbersWithin, biasWithin, roundingWithin, fitsWidth, limitTests, settingTests, settingNumber, sumProducts, hasBias, biasBound, biasColumns, parts, count, records, ticketLength}
 use Rattle.ticket.specs.Laws.Limits.{renumbered}
 
 abbrev pub widened : Setting → ℕ → Setting
@@ -35,3 +39,7 @@ unfolding settingTests numbersWithin
 widened-number G v low high =
     let same = width-unread G v in
     rw (le-leb 1 v low, le-leb v mostWidth high, and-true, same .limits, same .numbers, same .fit)
+
+pub largest-width-unfit : (G : Setting) → 2 ≤ G .scale → fitsWidth G mostWidth ≡ false
+unfolding fitsWidth
+largest-width-unfit G two = rw (le-ltb (2 ^ mostWidth * G .scale) modulus (omega (arith, modulus-below)), and-false)
