@@ -1,7 +1,7 @@
 /*
  * The layer ticket and its checker: residue arithmetic modulo p = 2147483647
  * (a prime, 2^31 - 1), the challenge check, the full check, the ticket writer,
- * and these three for bias tickets.
+ * these three for bias tickets, and the quotes for both kinds.
  *
  * A call cannot test this, and asks it of its caller:
  *
@@ -32,9 +32,9 @@
 
 /* The version of this interface, for a program to test. */
 #ifndef DIKDUMAR_VERSION
-#define DIKDUMAR_VERSION "2.0.0"
+#define DIKDUMAR_VERSION "2.1.0"
 #define DIKDUMAR_VERSION_MAJOR 2
-#define DIKDUMAR_VERSION_MINOR 0
+#define DIKDUMAR_VERSION_MINOR 1
 #define DIKDUMAR_VERSION_PATCH 0
 #endif
 
@@ -362,6 +362,64 @@ dikdumar_answer dikdumar_write_bias_ticket(dikdumar_bias_setting setting,
                                            const int32_t *b, size_t b_length,
                                            const int32_t *bias, size_t bias_length,
                                            uint8_t *output, size_t output_length);
+
+/* Quotes */
+
+/*
+ * What the tickets of a setting need, whatever the operands. Where number is not
+ * 0, the four figures are 0.
+ */
+typedef struct {
+    uint32_t number;             /* 0, or why there are no figures: 1, 2, 17, 19 or 20 */
+    uint32_t width;              /* the smallest v with which the setting fits */
+    uint32_t length;             /* the bytes of a ticket, the place of the writer's answer */
+    uint32_t full_products;      /* the products of a full check that accepts */
+    uint32_t challenge_products; /* the products of a challenge check that accepts */
+} dikdumar_quote;
+
+/*
+ * The quote for tickets of a setting, before there are operands.
+ *
+ * setting.width is not read. The smallest v is given with which the setting fits:
+ * m*T^2 + o + a - 1 <= 2^(v-1)*a and 2^v*a < p. With every v with which it fits,
+ * the writer and the checks report the length and the products that are quoted.
+ *
+ *     number  meaning
+ *        0    quoted
+ *        1    l, m, n or s outside its limits
+ *        2    a or T outside its limits
+ *       19    o not below a
+ *       20    no v from 1 to 30 fits
+ *
+ * The first test that fails decides: 1, 2, 19, 20. The figures of number 0:
+ *
+ *     width  length                   full_products  challenge_products
+ *     v      8*(l*m + m*n + 2*l*n)    l*m*n          s*(m*n + l*n + l*m)
+ */
+dikdumar_quote dikdumar_quote_ticket(dikdumar_setting setting);
+
+/*
+ * The quote for bias tickets of a setting, before there are operands.
+ *
+ * setting.setting.width is not read. The smallest v is given with which the
+ * setting fits: m*T^2 + W + o + a - 1 <= 2^(v-1)*a and 2^v*a < p. With every v
+ * with which it fits, the writer and the checks of bias tickets report the length
+ * and the products that are quoted.
+ *
+ *     number  meaning
+ *        0    quoted
+ *        1    l, m, n or s outside its limits
+ *        2    a or T outside its limits
+ *       17    W above 2^30
+ *       19    o not below a
+ *       20    no v from 1 to 30 fits
+ *
+ * The first test that fails decides: 1, 2, 17, 19, 20. The figures of number 0:
+ *
+ *     width  length                   full_products  challenge_products
+ *     v      8*(l*m + m*n + 3*l*n)    l*m*n          s*(m*n + 2*l*n + l*m)
+ */
+dikdumar_quote dikdumar_quote_bias_ticket(dikdumar_bias_setting setting);
 
 #ifdef __cplusplus
 }

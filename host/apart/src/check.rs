@@ -88,14 +88,19 @@ fn products_of_a_vector(terms: &Terms) -> u32 {
     inner * columns + rows * products_of_a_row(terms)
 }
 
-/// "Accepted: 0, 0, 0, s(mn + ℓn + ℓm)." A bias ticket has its own products of
-/// a vector.
+/// The products of all s vectors, s(mn + ℓn + ℓm) in a plain ticket. A bias
+/// ticket has its own products of a vector.
+pub(crate) fn products_of_all(terms: &Terms) -> u32 {
+    terms.setting.vectors * products_of_a_vector(terms)
+}
+
+/// "Accepted: 0, 0, 0, s(mn + ℓn + ℓm)."
 fn accepted(terms: &Terms) -> Answer {
     Answer {
         number: 0,
         place: 0,
         row: 0,
-        products: terms.setting.vectors * products_of_a_vector(terms),
+        products: products_of_all(terms),
     }
 }
 

@@ -42,14 +42,19 @@ fn is_true(ticket: &Ticket, i: u32, j: u32) -> bool {
     ticket.claims.entry(i, j) == sum + ticket.bias.entry(i, j)
 }
 
-/// "accepted is 0, 0, 0, ℓmn." The sizes are within their limits here, so no
+/// The products of every S, ℓmn. The sizes are within their limits here, so no
 /// count comes near the end of `u32`.
+pub(crate) fn products_of_all(setting: &Setting) -> u32 {
+    setting.rows * setting.inner * setting.columns
+}
+
+/// "accepted is 0, 0, 0, ℓmn."
 fn accepted(setting: &Setting) -> Answer {
     Answer {
         number: 0,
         place: 0,
         row: 0,
-        products: setting.rows * setting.inner * setting.columns,
+        products: products_of_all(setting),
     }
 }
 

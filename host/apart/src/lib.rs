@@ -2,11 +2,12 @@
 //! arithmetic modulo p here at the root, the setting, the reading of a ticket,
 //! the challenge check, the full check, the writer and the program in a module
 //! each, and, for those who test them, the making of tickets, true and false, and
-//! what the marked examples share. Of the paper of change requests the first two
-//! are followed. "Bias from the autumn model": both checks and the writer have a
-//! call for bias tickets beside the plain one, and the rules that are the same
-//! are written once. "Rounding to the nearest": the setting has a rounding number
-//! o, and every call goes by it.
+//! what the marked examples share. Of the paper of change requests the first
+//! three are followed. "Bias from the autumn model": both checks and the writer
+//! have a call for bias tickets beside the plain one, and the rules that are the
+//! same are written once. "Rounding to the nearest": the setting has a rounding
+//! number o, and every call goes by it. "Quoting for a layer before it is built":
+//! the quote, for plain and for bias tickets, in a module of its own.
 //!
 //! Everything is exact integer arithmetic in `i128`. Every residue goes through
 //! one definition of the least residue. Every function takes every input,
@@ -23,6 +24,7 @@ mod full;
 pub mod make;
 mod matrix;
 pub mod program;
+mod quote;
 mod setting;
 mod ticket;
 mod writer;
@@ -31,6 +33,7 @@ pub use answer::Answer;
 pub use check::{bias_challenge_check, challenge_check};
 pub use full::{bias_full_check, full_check};
 pub use make::{true_bias_ticket, true_ticket};
+pub use quote::{quote_bias_ticket, quote_ticket, Quote};
 pub use setting::{BiasSetting, Setting};
 pub use writer::{write_bias_ticket, write_ticket};
 

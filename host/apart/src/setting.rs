@@ -79,16 +79,20 @@ impl Setting {
         ]
     }
 
-    /// "scale α, 2 to 65,536; entry bound T, 1 to 32,767; quotient width v, 1 to
-    /// 30"
-    fn others(&self) -> [(u32, RangeInclusive<u32>); 3] {
-        [(self.scale, 2..=65_536), (self.bound, 1..=32_767), (self.width, 1..=30)]
+    /// "scale α, 2 to 65,536; entry bound T, 1 to 32,767"
+    fn scale_and_bound(&self) -> [(u32, RangeInclusive<u32>); 2] {
+        [(self.scale, 2..=65_536), (self.bound, 1..=32_767)]
     }
+}
 
-    /// 2^(v-1), by which quotients are shifted; v is from 1 to 30 here.
-    pub(crate) fn half_of_quotients(&self) -> i128 {
-        1 << (self.width - 1)
-    }
+/// "quotient width v, 1 to 30"
+pub(crate) fn widths() -> RangeInclusive<u32> {
+    1..=30
+}
+
+/// 2^(v-1), by which quotients are shifted; v is from 1 to 30 here.
+pub(crate) fn half_of_quotients(width: u32) -> i128 {
+    1 << (width - 1)
 }
 
 /// The setting of a call for bias tickets: "The setting for this call has a bias
@@ -149,16 +153,26 @@ impl Terms {
     /// The tests 1, 2 and 3, in this order, each with place 0; "W beyond 2^30 as
     /// 17, after 2", and "o not below α as 19, after 2 and 17".
     pub(crate) fn test(&self) -> Result<(), Refusal> {
+        let width = self.setting.width;
+        self.test_limits(Some(width))?;
+        if !self.fits(width) {
+            return Err(Refusal { number: 3, place: 0 });
+        }
+        Ok(())
+    }
+
+    /// The tests of the limits, 1, 2, 17 and 19, in this order. A width is held to
+    /// its limits in 2; where there is none, v is "left unread".
+    pub(crate) fn test_limits(&self, width: Option<u32>) -> Result<(), Refusal> {
+        let is_outside = |width: u32| !widths().contains(&width);
         let number = if any_outside(&self.setting.sizes()) {
             1
-        } else if any_outside(&self.setting.others()) {
+        } else if any_outside(&self.setting.scale_and_bound()) || width.is_some_and(is_outside) {
             2
         } else if self.greatest_bias() > GREATEST_BOUND {
             17
         } else if self.setting.rounding >= self.setting.scale {
             19
-        } else if !self.fits() {
-            3
         } else {
             return Ok(());
         };
@@ -169,14 +183,14 @@ impl Terms {
     /// "It fits when m·T² + α - 1 ≤ 2^(v-1)·α and 2^v·α < p." With a bias bound
     /// W it "fits when m·T² + W + α - 1 ≤ 2^(v-1)·α and 2^v·α < p." Either way it
     /// "fits when the left side with o added still fits." Asked only within the
-    /// limits.
-    fn fits(&self) -> bool {
+    /// limits, and v is the width that is asked for.
+    pub(crate) fn fits(&self, width: u32) -> bool {
         let m = i128::from(self.setting.inner);
         let alpha = i128::from(self.setting.scale);
         let t = i128::from(self.setting.bound);
         let w = self.greatest_bias();
         let o = i128::from(self.setting.rounding);
-        let half = self.setting.half_of_quotients();
+        let half = half_of_quotients(width);
         m * t * t + w + o + alpha - 1 <= half * alpha && 2 * half * alpha < P
     }
 

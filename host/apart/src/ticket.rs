@@ -4,7 +4,7 @@
 
 use crate::answer::Refusal;
 use crate::matrix::Matrix;
-use crate::setting::Terms;
+use crate::setting::{half_of_quotients, Terms};
 use crate::{least_residue, to_signed, P};
 
 /// The bytes of a record.
@@ -132,7 +132,7 @@ fn in_range(terms: &Terms, part: Part, value: u32) -> Result<i128, u32> {
         // "the shifted quotient q♯ = (q' + 2^(v-1)) mod p is below 2^v, and q =
         // q♯ - 2^(v-1)"
         Part::Quotients => {
-            let half = setting.half_of_quotients();
+            let half = half_of_quotients(setting.width);
             let shifted = least_residue(residue + half);
             within(shifted, 0, 2 * half - 1).map(|shifted| shifted - half).ok_or(8)
         }

@@ -6,7 +6,7 @@ use crate::make::Parts;
 use crate::matrix::{exact_sum, Matrix};
 use crate::setting::Terms;
 use crate::ticket::{self, added, Part};
-use crate::{Answer, BiasSetting, Setting};
+use crate::{full, Answer, BiasSetting, Setting};
 
 /// The signed numbers that a ticket is written for, each matrix row by row. For
 /// a plain ticket the bias is empty.
@@ -35,14 +35,12 @@ fn write(terms: &Terms, operands: &Operands, output: &mut [u8]) -> Answer {
         Ok(()) => {
             let ticket = ticket_of(terms, operands);
             output[..ticket.len()].copy_from_slice(&ticket);
-            let setting = &terms.setting;
-            // The sizes are within their limits, so neither number comes near
-            // the end of `u32`.
             Answer {
                 number: 0,
+                // The sizes are within their limits, so nothing is lost.
                 place: ticket.len() as u32,
                 row: 0,
-                products: setting.rows * setting.inner * setting.columns,
+                products: full::products_of_all(&terms.setting),
             }
         }
     }

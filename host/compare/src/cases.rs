@@ -6,7 +6,8 @@ use apart::Answer;
 use crate::parts::ticket_length;
 use crate::setting::{Form, Setting, Taken};
 
-/// The calls that cases are made for.
+/// The calls that are compared on families: those that cases are made for, and the
+/// quotes.
 #[derive(Clone, Copy, Debug, PartialEq, Eq)]
 pub enum Kind {
     Challenge,
@@ -15,16 +16,20 @@ pub enum Kind {
     BiasChallenge,
     BiasFull,
     BiasWriter,
+    Quote,
+    BiasQuote,
 }
 
 impl Kind {
-    pub const ALL: [Kind; 6] = [
+    pub const ALL: [Kind; 8] = [
         Kind::Challenge,
         Kind::Full,
         Kind::Writer,
         Kind::BiasChallenge,
         Kind::BiasFull,
         Kind::BiasWriter,
+        Kind::Quote,
+        Kind::BiasQuote,
     ];
 
     pub fn name(self) -> &'static str {
@@ -35,6 +40,8 @@ impl Kind {
             Kind::BiasChallenge => "bias challenge check",
             Kind::BiasFull => "bias full check",
             Kind::BiasWriter => "bias writer",
+            Kind::Quote => "quote",
+            Kind::BiasQuote => "bias quote",
         }
     }
 
@@ -47,6 +54,8 @@ impl Kind {
             Kind::BiasChallenge => &[0, 1, 2, 3, 4, 5, 6, 7, 8, 9, 10, 11, 12, 17, 18, 19],
             Kind::BiasFull => &[0, 1, 2, 3, 4, 5, 6, 7, 8, 9, 16, 17, 18, 19],
             Kind::BiasWriter => &[0, 1, 2, 3, 13, 14, 15, 17, 18, 19],
+            Kind::Quote => &[0, 1, 2, 19, 20],
+            Kind::BiasQuote => &[0, 1, 2, 17, 19, 20],
         }
     }
 }

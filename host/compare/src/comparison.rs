@@ -9,13 +9,13 @@ use crate::cases::{Call, Case, Family, Kind, Reply, Side, Visitor, GUARD};
 use crate::outcome::{agreed, Report};
 use crate::setting::Form;
 
-/// How often the library answered, and how often with each number from 0 to 19, for
+/// How often the library answered, and how often with each number from 0 to 20, for
 /// each call in the order of `Kind::ALL`. Any other number is a difference, and so
 /// is not counted by itself.
 #[derive(Clone, Debug, Default, PartialEq, Eq)]
 pub struct Numbers {
     cases: [u64; Kind::ALL.len()],
-    numbers: [[u64; 20]; Kind::ALL.len()],
+    numbers: [[u64; 21]; Kind::ALL.len()],
 }
 
 impl Numbers {
@@ -44,6 +44,7 @@ impl Numbers {
 }
 
 /// What the comparison of a family found.
+#[derive(Default)]
 pub struct Outcome {
     pub compared: u64,
     pub differing: u64,
@@ -51,18 +52,12 @@ pub struct Outcome {
     pub first: Option<String>,
     pub numbers: Numbers,
     /// Of all replies of the library.
-    digest: Digest,
+    pub digest: Digest,
 }
 
 /// Compares the two sides on every case of a family.
 pub fn compare(family: &Family, library: Side, apart: Side) -> Outcome {
-    let mut outcome = Outcome {
-        compared: 0,
-        differing: 0,
-        first: None,
-        numbers: Numbers::default(),
-        digest: Digest::default(),
-    };
+    let mut outcome = Outcome::default();
     family.visit(&mut Visitor(&mut |case| {
         let (by_library, by_apart) = (library(case), apart(case));
         outcome.numbers.count(case.kind(), by_library.answer.number);
@@ -86,14 +81,15 @@ pub fn compare(family: &Family, library: Side, apart: Side) -> Outcome {
 }
 
 impl Outcome {
-    pub fn report(&self, family: &Family, digests: &mut Digests) -> Report {
-        let (name, compared, digest) = (&family.name, self.compared, self.digest);
+    /// The report on a family of this name, of cases or of quotes.
+    pub fn report(&self, name: &str, items: &str, digests: &mut Digests) -> Report {
+        let (compared, digest) = (self.compared, self.digest);
         let on_file = digests.take(name, compared, digest);
         match &self.first {
-            None if compared == 0 => Err(format!("{name}: no case")),
-            None => agreed(format!("{name}: {compared} cases, no difference"), digest, on_file),
+            None if compared == 0 => Err(format!("{name}: no {items}")),
+            None => agreed(format!("{name}: {compared} {items}, no difference"), digest, on_file),
             Some(first) => Err(format!(
-                "{name}: {compared} cases, {} with a wrong reply, the first is\n{first}",
+                "{name}: {compared} {items}, {} with a wrong reply, the first is\n{first}",
                 self.differing
             )),
         }
@@ -132,22 +128,7 @@ impl Display for Difference<'_> {
             expected,
         } = self.case;
         writeln!(f, "  case {}, {}: {what}", self.index, self.case.kind().name())?;
-        write!(
-            f,
-            "  setting: rows {}, inner {}, columns {}, vectors {}, scale {}, bound {}, width {}, rounding {}",
-            setting.rows,
-            setting.inner,
-            setting.columns,
-            setting.vectors,
-            setting.scale,
-            setting.bound,
-            setting.width,
-            setting.rounding
-        )?;
-        match setting.bias_bound {
-            None => writeln!(f)?,
-            Some(bias_bound) => writeln!(f, ", bias bound {bias_bound}")?,
-        }
+        writeln!(f, "  setting: {setting}")?;
         match call {
             Call::Challenge { ticket, list } => {
                 write_ticket(f, ticket)?;
@@ -297,7 +278,7 @@ mod tests {
 
     fn report_on_file(family: &Family, outcome: &Outcome, text: &str) -> Report {
         let mut digests = Digests::new("digests.txt", text, &[]).expect("no argument");
-        outcome.report(family, &mut digests)
+        outcome.report(&family.name, "cases", &mut digests)
     }
 
     #[test]
@@ -537,15 +518,21 @@ mod tests {
         let mut numbers = Numbers::default();
         numbers.count(Kind::Full, 16);
         numbers.count(Kind::Writer, 0);
-        numbers.count(Kind::Writer, 20);
+        numbers.count(Kind::Writer, 21);
         numbers.count(Kind::Writer, u32::MAX);
         numbers.count(Kind::BiasWriter, 19);
+        numbers.count(Kind::BiasQuote, 20);
         let mut twice = numbers.clone();
         twice.add(&numbers);
-        assert_eq!(Kind::ALL.map(|kind| twice.cases(kind)), [0, 2, 6, 0, 0, 2]);
-        let all = [(Kind::Full, 16), (Kind::Writer, 0), (Kind::BiasWriter, 19)];
+        assert_eq!(Kind::ALL.map(|kind| twice.cases(kind)), [0, 2, 6, 0, 0, 2, 0, 2]);
+        let all = [
+            (Kind::Full, 16),
+            (Kind::Writer, 0),
+            (Kind::BiasWriter, 19),
+            (Kind::BiasQuote, 20),
+        ];
         for kind in Kind::ALL {
-            for number in 0..20 {
+            for number in 0..=20 {
                 let counted = all.contains(&(kind, number));
                 assert_eq!(twice.of(kind, number), if counted { 2 } else { 0 });
             }

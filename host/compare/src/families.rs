@@ -10,8 +10,8 @@ mod false_tickets;
 mod lengths;
 mod lists;
 mod random;
-mod rounding;
-mod settings;
+pub mod rounding;
+pub mod settings;
 mod true_tickets;
 pub mod writer;
 

@@ -1,11 +1,11 @@
 //! Compares every call of the proved library with the implementation written
 //! apart from it: the residue calls on all pairs of corner values and on random
 //! inputs, the two checks and the writer, for plain tickets and for bias tickets,
-//! on families of cases. Each residue call and each family is one test, which also
-//! holds the digest of its answers to digests.txt. It is one more that the checks
-//! and the writers gave each of their numbers at some case, and one that every
-//! line of digests.txt was met. The last line says how many passed, and how many
-//! did not.
+//! on families of cases, and the quotes for both on families of settings. Each
+//! residue call and each family is one test, which also holds the digest of its
+//! answers to digests.txt. It is one more that the checks, the writers and the
+//! quotes gave each of their numbers at some case, and one that every line of
+//! digests.txt was met. The last line says how many passed, and how many did not.
 //!
 //! Usage: `compare [--write-digests]`
 
@@ -18,6 +18,7 @@ mod generator;
 mod inputs;
 mod outcome;
 mod parts;
+mod quotes;
 mod residues;
 mod setting;
 
@@ -50,11 +51,17 @@ fn main() -> ExitCode {
     for family in &families {
         let outcome = comparison::compare(family, cases::library, cases::apart);
         numbers.add(&outcome.numbers);
-        run.take(outcome.report(family, &mut digests));
+        run.take(outcome.report(&family.name, "cases", &mut digests));
+    }
+    let quotes = quotes::all();
+    for family in &quotes {
+        let outcome = quotes::compare(family, &quotes::SIDES);
+        numbers.add(&outcome.numbers);
+        run.take(outcome.report(&family.name, "quotes", &mut digests));
     }
     run.take(every_number(&numbers));
     run.take(digests.finish(run.failed > 0));
-    println!("{}", summary(families.len(), &numbers, inputs));
+    println!("{}", summary(families.len() + quotes.len(), &numbers, inputs));
     println!("{} passed, {} failed", run.passed, run.failed);
     if run.failed == 0 {
         ExitCode::SUCCESS
@@ -150,7 +157,7 @@ mod tests {
 
     #[test]
     fn every_number_of_the_table_is_given_by_some_call() {
-        for number in 0..=19 {
+        for number in 0..=20 {
             assert!(Kind::ALL.iter().any(|kind| kind.numbers().contains(&number)));
         }
     }
@@ -169,7 +176,7 @@ mod tests {
         assert_eq!(
             summary(5, &all_but(None), 3),
             "families 5, challenge check 14, full check 12, writer 8, bias challenge check 16, bias full check 14, \
-             bias writer 10, residue calls 7, inputs 3"
+             bias writer 10, quote 5, bias quote 6, residue calls 7, inputs 3"
         );
     }
 }

@@ -1,6 +1,8 @@
 //! The forms of a ticket, and the setting of a call of either form.
 
-/// The forms of a ticket. The checks and the writer have a call for each.
+use std::fmt::{self, Display, Formatter};
+
+/// The forms of a ticket. The checks, the writer and the quote have a call for each.
 #[derive(Clone, Copy, Debug, PartialEq, Eq)]
 pub enum Form {
     Plain,
@@ -86,6 +88,20 @@ impl Setting {
     /// W, and 0 for a plain ticket, to whose sums nothing is added.
     pub fn greatest_bias(&self) -> u32 {
         self.bias_bound.unwrap_or(0)
+    }
+}
+
+impl Display for Setting {
+    fn fmt(&self, f: &mut Formatter) -> fmt::Result {
+        write!(
+            f,
+            "rows {}, inner {}, columns {}, vectors {}, scale {}, bound {}, width {}, rounding {}",
+            self.rows, self.inner, self.columns, self.vectors, self.scale, self.bound, self.width, self.rounding
+        )?;
+        match self.bias_bound {
+            None => Ok(()),
+            Some(bias_bound) => write!(f, ", bias bound {bias_bound}"),
+        }
     }
 }
 

@@ -9,8 +9,8 @@
 /// | 0 | written | 8(ℓm + mn + 2ℓn) | 0 | ℓmn | writer |
 /// | 0 | accepted | 0 | 0 | s(mn + 2ℓn + ℓm) | bias challenge check |
 /// | 0 | written | 8(ℓm + mn + 3ℓn) | 0 | ℓmn | bias writer |
-/// | 1 | ℓ, m, n or s outside its limits | 0 | 0 | 0 | all calls |
-/// | 2 | α, T or v outside its limits | 0 | 0 | 0 | all calls |
+/// | 1 | ℓ, m, n or s outside its limits | 0 | 0 | 0 | challenge check, full check, writer, bias challenge check, bias full check, bias writer |
+/// | 2 | α, T or v outside its limits | 0 | 0 | 0 | challenge check, full check, writer, bias challenge check, bias full check, bias writer |
 /// | 3 | the setting does not fit | 0 | 0 | 0 | challenge check, full check, writer |
 /// | 3 | the setting does not fit | 0 | 0 | 0 | bias challenge check, bias full check, bias writer |
 /// | 4 | ticket's length not 8(ℓm + mn + 2ℓn) | 0 | 0 | 0 | challenge check, full check |
@@ -34,7 +34,7 @@
 /// | 17 | W above 2^30 | 0 | 0 | 0 | bias challenge check, bias full check, bias writer |
 /// | 18 | bias entry below -W or above W | record | 0 | 0 | bias challenge check, bias full check |
 /// | 18 | number of the bias below -W or above W | index after A and B | 0 | 0 | bias writer |
-/// | 19 | o not below α | 0 | 0 | 0 | all calls |
+/// | 19 | o not below α | 0 | 0 | 0 | challenge check, full check, writer, bias challenge check, bias full check, bias writer |
 #[repr(C)]
 #[derive(Clone, Copy, Debug, PartialEq, Eq)]
 pub struct Answer {

@@ -1,6 +1,6 @@
 //! Safe Rust functions over the proved static library: the two checks of a
-//! ticket, the writer of tickets, the same three for bias tickets, and residue
-//! arithmetic.
+//! ticket, the writer of tickets, the same three for bias tickets, quotes for
+//! both kinds before there is a ticket, and residue arithmetic.
 //!
 //! A ticket holds two integer matrices A and B and, for every entry S of their
 //! product, a quotient q and a remainder r, those of S + o over α: the claim is
@@ -60,12 +60,14 @@ mod answer;
 pub mod check;
 #[allow(unsafe_code)]
 mod library;
+pub mod quote;
 pub mod residue;
 mod setting;
 pub mod writer;
 
 pub use answer::Answer;
 pub use check::{bias_challenge_check, bias_full_check, challenge_check, full_check};
+pub use quote::{quote_bias_ticket, quote_ticket, Quote};
 pub use setting::{BiasSetting, Setting};
 pub use writer::{write_bias_ticket, write_ticket};
 

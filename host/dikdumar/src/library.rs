@@ -2,8 +2,9 @@
 //! stands here.
 //!
 //! The calls are proved to meet contracts that ask nothing of a number. So the
-//! residue calls, which take numbers alone, are declared safe. Of a pointer the
-//! calls on tickets ask what the header says, and slices promise all of it:
+//! residue calls and the quotes, which take numbers alone, are declared safe. Of a
+//! pointer the calls on tickets ask what the header says, and slices promise all
+//! of it:
 //!
 //! - The pointer is aligned, and lends as many items as the length beside it says:
 //!   both are taken from one slice. That of an empty slice lends nothing.
@@ -14,9 +15,9 @@
 //!   returns, and does not unwind.
 //!
 //! What is left to trust is that the declarations below, and the layouts of
-//! `Setting`, `BiasSetting` and `Answer`, are those of the header.
+//! `Setting`, `BiasSetting`, `Answer` and `Quote`, are those of the header.
 
-use crate::{Answer, BiasSetting, Setting};
+use crate::{Answer, BiasSetting, Quote, Setting};
 
 unsafe extern "C" {
     pub safe fn dikdumar_reduce(x: u32) -> u32;
@@ -26,6 +27,9 @@ unsafe extern "C" {
     pub safe fn dikdumar_from_signed(x: i32) -> u32;
     pub safe fn dikdumar_to_signed(x: u32) -> i32;
     pub safe fn dikdumar_power_of_two(k: u32) -> u32;
+
+    pub safe fn dikdumar_quote_ticket(setting: Setting) -> Quote;
+    pub safe fn dikdumar_quote_bias_ticket(setting: BiasSetting) -> Quote;
 
     fn dikdumar_challenge_check(
         setting: Setting,

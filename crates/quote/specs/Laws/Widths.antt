@@ -53,13 +53,16 @@ module _ (G : Setting) where
   smallest-or-none =
       ⊎-elim
       (λ h. inr (λ w low high. let same : suc (w - 1) ≡ w = omega arith in rw same at (not-true (fitsWidth G (suc (w - 1))) (h (w - 1) (omega arith)))))
-      (λ o. inl (suc (o .0), record {
-        from-one = omega arith;
-        within = omega (arith, o .1 .within);
-        fitting = not-false _ (o .1 .fails);
-        none-smaller = λ w low l. let same : suc (w - 1) ≡ w = omega arith in 
-            rw same at (not-true (fitsWidth G (suc (w - 1))) (o .1 .before (w - 1) (omega arith)));
-      }))
+      (λ o. inl (
+        suc (o .0),
+        record {
+          from-one = omega arith;
+          within = omega (arith, o .1 .within);
+          fitting = not-false _ (o .1 .fails);
+          none-smaller = λ w low l. let same : suc (w - 1) ≡ w = omega arith in
+              rw same at (not-true (fitsWidth G (suc (w - 1))) (o .1 .before (w - 1) (omega arith)));
+        },
+      ))
       (holds-or-first mostWidth (λ k. not (fitsWidth G (suc k))))
 
 abbrev pub LimitsHold : Setting → Type 0

@@ -233,11 +233,22 @@ pub fn counts(setting: &Setting) -> [usize; 4] {
     [rows * inner, inner * columns, of_bias, rows * columns]
 }
 
-/// The parts of a true ticket with random entries, one in eight of them at an
-/// end of the range.
+/// The parts of a true ticket with random entries.
 pub fn true_parts(generator: &mut Generator, setting: &Setting) -> Parts {
+    let [a, b, bias] = operands(generator, setting);
+    Parts::true_ones(setting, &a, &b, &bias)
+}
+
+/// A, B and, for bias tickets, a bias with random entries, one in eight of them at an
+/// end of the range.
+pub fn operands(generator: &mut Generator, setting: &Setting) -> [Vec<i64>; 3] {
     let [of_a, of_b, of_bias, _] = counts(setting);
-    let mut matrix = |count, bound: u32| -> Vec<i64> {
+    let operands = [
+        (of_a, setting.bound),
+        (of_b, setting.bound),
+        (of_bias, setting.greatest_bias()),
+    ];
+    operands.map(|(count, bound)| {
         let bound = i64::from(bound);
         (0..count)
             .map(|_| match generator.below(16) {
@@ -246,11 +257,7 @@ pub fn true_parts(generator: &mut Generator, setting: &Setting) -> Parts {
                 _ => generator.between(-bound, bound),
             })
             .collect()
-    };
-    let a = matrix(of_a, setting.bound);
-    let b = matrix(of_b, setting.bound);
-    let bias = matrix(of_bias, setting.greatest_bias());
-    Parts::true_ones(setting, &a, &b, &bias)
+    })
 }
 
 /// The parts of the true ticket whose operands are zeros only. The remainders are

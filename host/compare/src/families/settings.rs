@@ -41,9 +41,18 @@ pub fn values(field: &Field) -> Vec<u32> {
     values
 }
 
-/// The refusal of a setting, by the limits, of which the lowest number decides, then
-/// by o, which is to be below α, and then by fitting.
+/// The refusal of a setting, by the limits and then by fitting.
 pub fn refusal(setting: &Setting) -> Option<Answer> {
+    match refusal_by_limits(setting) {
+        Some(number) => Some(refused(number, 0)),
+        None if !fits(setting) => Some(refused(3, 0)),
+        None => None,
+    }
+}
+
+/// The refusal of a setting by the limits, of which the lowest number decides, and
+/// then by o, which is to be below α.
+pub fn refusal_by_limits(setting: &Setting) -> Option<u32> {
     let outside = fields(setting.form())
         .iter()
         .filter(|field| {
@@ -53,10 +62,8 @@ pub fn refusal(setting: &Setting) -> Option<Answer> {
         .map(|field| field.refusal)
         .min();
     match outside {
-        Some(number) => Some(refused(number, 0)),
-        None if setting.rounding >= setting.scale => Some(refused(19, 0)),
-        None if !fits(setting) => Some(refused(3, 0)),
-        None => None,
+        None if setting.rounding >= setting.scale => Some(19),
+        outside => outside,
     }
 }
 

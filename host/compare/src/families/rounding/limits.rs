@@ -12,7 +12,7 @@ use crate::setting::{Form, Setting};
 const SCALES: [u32; 14] = [2, 3, 4, 7, 10, 127, 255, 256, 257, 1000, 32_767, 32_768, 65_535, 65_536];
 
 /// The values to try for o beside a scale.
-fn values(scale: u32) -> Vec<u32> {
+pub fn values(scale: u32) -> Vec<u32> {
     // Where a byte, 16 bits, a signed number or p ends.
     let mut values = vec![0, 1, 255, 256, 65_535, 65_536, P - 1, P, P + 1, 1 << 31, u32::MAX];
     for middle in [scale / 2, scale] {
@@ -125,7 +125,7 @@ pub fn edges(generator: &mut Generator, form: Form, width: u32, most: usize) -> 
 }
 
 /// m·T² + W + o where the first condition of fitting holds by nothing.
-fn room(scale: u32, width: u32) -> i64 {
+pub fn room(scale: u32, width: u32) -> i64 {
     ((1 << (width - 1)) - 1) * i64::from(scale) + 1
 }
 

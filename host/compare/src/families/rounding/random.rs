@@ -63,7 +63,7 @@ fn any_rounding(generator: &mut Generator, setting: &Setting) -> u32 {
 }
 
 /// A setting of random numbers, mostly within the limits.
-fn random_setting_with_rounding(generator: &mut Generator, form: Form) -> Setting {
+pub fn random_setting_with_rounding(generator: &mut Generator, form: Form) -> Setting {
     let setting = random_setting(generator, form);
     Setting {
         rounding: any_rounding(generator, &setting),
