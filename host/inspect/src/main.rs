@@ -12,7 +12,6 @@ mod files;
 mod inputs;
 mod layout;
 mod list;
-mod meanings;
 mod report;
 mod table;
 mod terms;

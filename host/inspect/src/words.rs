@@ -2,12 +2,12 @@
 
 use dikdumar::{residue, Answer};
 
-use crate::meanings;
 use crate::terms::Terms;
 
 /// What an answer of a call means: the table's words, and what they leave open.
 pub fn meaning(call: &str, answer: Answer, terms: Terms) -> String {
-    match meanings::meaning(call, answer) {
+    let [number, fields @ ..] = answer.numbers();
+    match ::answers::meaning(call, number, &fields) {
         Some(meaning) => meaning + &here(answer, terms),
         None => "a number that docs/answers.txt does not have".to_string(),
     }

@@ -5,7 +5,6 @@ use std::fs;
 use dikdumar::residue;
 
 use crate::layout::{self, Layout};
-use crate::meanings::meaning;
 use crate::report::no_answers;
 use crate::words::{count, hex};
 
@@ -384,7 +383,7 @@ fn a_refused_record_is_shown() {
             8 => "; allowed: -16 to 15",
             _ => "; allowed: 0 to 9",
         };
-        let meaning = meaning(&check, terms.full_check(&ticket)).expect("words");
+        let meaning = ::answers::meaning(&check, number, &[record as u32, 0, 0]).expect("words");
         let bytes = hex(&ticket[8 * record..8 * record + 8]);
         let expected = format!("  {meaning}{allowed}\n  record {record}: {bytes}\n    {place}\n");
         assert!(text.contains(&expected), "{text}");
