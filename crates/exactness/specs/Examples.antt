@@ -305,11 +305,11 @@ by-rules (rounds G S _ _) =
 
 examples-hold : map by-rules examples ≡ examples
 unfolding modulus leastResidue signedEntry sumℤ matrixProduct floorDivision first scan after firstFailed sizesWithin scaleAndBoundWithin
-    numbersWithin fitsWidth limitTests settingTests isEntry shiftedQuotient parts part count start records ticketLength holder valueAt formed partTests recordTests firstRefusal
-    recordsReading reading valueIn entryA entryB quotient remainder claim exactSum biasedSum hasBias biasBound biasColumns biasWithin
-    roundingWithin entryBias listNumber listReading productB claimSide operandSide
-    balanced firstRow verdict challengeCheck same holds fullVerdict fullCheck joined beyondNumber operandsReading writing quotientOf
-    remainderOf integersOf integerIn recordOf ticketRecord ticketOf minus recordsFrom ticket numbers setting biased rounded both under claiming
+    numbersWithin fitsWidth limitTests settingTests isEntry shiftedQuotient parts part count start records ticketLength holder valueAt
+    formed partTests recordTests firstRefusal recordsReading reading valueIn entryA entryB quotient remainder claim exactSum biasedSum
+    hasBias biasBound biasColumns biasWithin roundingWithin entryBias listNumber listReading productB claimSide operandSide balanced
+    firstRow verdict challengeCheck same holds fullVerdict fullCheck joined beyondNumber operandsReading writing quotientOf remainderOf
+    integersOf integerIn recordOf ticketRecord ticketOf minus recordsFrom ticket numbers setting biased rounded both under claiming
     biasedBy biasOf biasCase falseBias trueRemainders trueCase changed roundedBy roundedBias unrounded trueTicket biasTicket roundedTicket
     smallestWidth quoteTests quoteOf figured examples each by-rules
 examples-hold = refl

@@ -72,10 +72,10 @@ by-rules (prints s t c _) = prints s t c (lineOf (fileCheck s t c))
 by-rules (spells n _) = spells n (decimal n)
 
 examples-hold : map by-rules examples ≡ examples
-unfolding modulus leastResidue signedEntry sumℤ first scan after firstFailed sizesWithin scaleAndBoundWithin numbersWithin fitsWidth limitTests settingTests isEntry
-    shiftedQuotient parts part count start records ticketLength holder valueAt formed partTests recordTests firstRefusal recordsReading
-    reading valueIn entryA entryB quotient remainder claim hasBias biasBound biasColumns biasWithin roundingWithin entryBias
-    listNumber listReading productB claimSide operandSide balanced firstRow
-    verdict challengeCheck wordAt settingOf numbersOf fileCheck digitsOf decimal field lineOf rounded setting trueTicket roundedTicket challenge examples
+unfolding modulus leastResidue signedEntry sumℤ first scan after firstFailed sizesWithin scaleAndBoundWithin numbersWithin fitsWidth
+    limitTests settingTests isEntry shiftedQuotient parts part count start records ticketLength holder valueAt formed partTests
+    recordTests firstRefusal recordsReading reading valueIn entryA entryB quotient remainder claim hasBias biasBound biasColumns
+    biasWithin roundingWithin entryBias listNumber listReading productB claimSide operandSide balanced firstRow verdict challengeCheck
+    wordAt settingOf numbersOf fileCheck digitsOf decimal field lineOf rounded setting trueTicket roundedTicket challenge examples
     by-rules
 examples-hold = refl

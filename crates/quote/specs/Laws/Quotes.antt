@@ -78,7 +78,8 @@ module _ (G : Setting) where
   pub quoted-passes : quoteOf G .number ≡ 0 → settingNumber (widened G (quoteOf G .width)) ≡ 0
   quoted-passes e =
       let h = quoted-width e in
-      widened-number G (quoteOf G .width) (h .1 .from-one) (h .1 .within) ∙ holding-number (hold-then (test (fitsWidth G (quoteOf G .width)) 3) (h .0) (h .1 .fitting))
+      let v = quoteOf G .width in
+      widened-number G v (h .1 .from-one) (h .1 .within) ∙ holding-number (hold-then (test (fitsWidth G v) 3) (h .0) (h .1 .fitting))
 
   pub unquoted-exactly : (quoteOf G .number ≡ 20) ↔ (LimitsHold G × NoneFits G)
   unquoted-exactly = (
