@@ -11,22 +11,21 @@
 --   QuoteRow G q, quote-in-table   every quote is a row of the published table
 --   figures-unread     bytes and products do not read the width
 --   quote-unread       settings that differ in their width alone have the same quote (Q1)
-use Prim.Native.Nat.{ℕ, suc, _≤_}
+use Prim.Native.Nat.{ℕ, _≤_}
 use native.Mathlib.Decide.{decLe}
 use native.Mathlib.Omega.{arith}
-use mathlib.Core.Logic.{inl, inr, ⊎-elim, _↔_}
+use mathlib.Core.Logic.{⊎-elim, _↔_}
 use mathlib.Core.Path.{_≡_, refl, sym, ap, _∙_}
-use mathlib.Core.Bool.{true, false, true≢false}
-use borrow.Author.Tests.{le-leb, lt-leb, eq-eqb, ne-eqb}
+use mathlib.Core.Bool.{true≢false}
+use borrow.Author.Tests.{le-leb, lt-leb, ne-eqb}
 use lib.Dec.{leb}
 use Rattle.ticket.specs.declared.setting.Setting.{Setting}
-use Rattle.ticket.specs.Rules.{Test, test, mostWidth, scaleAndBoundWithin, fitsWidth, limitTests, settingNumber, ticketLength, sumProducts}
+use Rattle.ticket.specs.Rules.{Test, test, mostWidth, scaleAndBoundWithin, fitsWidth, limitTests, settingNumber}
 use Rattle.ticket.specs.Laws.Limits.{LimitRow, limit-in-table, limits-of, setting-holds}
 use Rattle.ticket.specs.Laws.Tests.{Failed, hold-or-failed, holding-number, failed-number, hold-then, failed-before, failed-last}
 use Rattle.ticket.specs.Laws.Widths.{widened, width-unread, widened-number}
-use Rattle.challenge.specs.Rules.{challengeProducts}
 use Rattle.quote.specs.declared.Quote.{Quote}
-use Rattle.quote.specs.Rules.{smallestWidth, quoteTests, quoteNumber, figures, noFigures, quoteOf}
+use Rattle.quote.specs.Rules.{smallestWidth, quoteTests, figures, noFigures, quoteOf}
 use Rattle.quote.specs.Laws.Widths.{Smallest, NoneFits, smallest-is, none-is, smallest-or-none, LimitsHold, limit-number, tried, tried-fits}
 
 pub data QuoteFor (G : Setting) : Quote → Type 0 where

@@ -7,7 +7,7 @@
 --   rounded G o          the setting G with another rounding number
 --   Unread G o, rounding-unread   the parts and the length, the tests from 4 on, what the records stand for, the bias, what a claim is
 --                        compared with, and how many products the sums take, do not read it
-use Prim.Native.Nat.{ℕ, _+_, _-_, _*_, _^_, _<_}
+use Prim.Native.Nat.{ℕ, _+_, _-_, _*_, _^_}
 use native.Mathlib.Omega.{arith}
 use mathlib.Core.Path.{_≡_, refl, sym, ap, _∙_}
 use mathlib.Core.Bool.{_&&_}
