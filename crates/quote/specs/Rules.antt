@@ -3,7 +3,8 @@
 -- is not read.
 --
 --   smallestWidth G   the smallest width from 1 on with which the setting fits; one more than the largest width where none fits
---   quoteTests G      tests 1, 2, 17, 19 and 20, in order; of the numbers that test 2 is about, the scale and the bound
+--   quoteLimits G     tests 1, 2, 17 and 19, in order; of the numbers that test 2 is about, the scale and the bound
+--   quoteTests G      those, then 20
 --   quoteNumber G     the first of them that fails, 0 where none does
 --   figures G v       the quote with the width v: the bytes of a ticket, and the products of a full check and of a challenge check that accept
 --   noFigures c       the quote of number c, every figure of which is 0
@@ -21,8 +22,11 @@ use Rattle.quote.specs.declared.Quote.{Quote}
 unfoldable pub smallestWidth : Setting → ℕ
 smallestWidth G = suc (first mostWidth (λ k. not (fitsWidth G (suc k))))
 
+abbrev pub quoteLimits : Setting → List Test
+quoteLimits G = limitTests G (scaleAndBoundWithin G)
+
 unfoldable pub quoteTests : Setting → List Test
-quoteTests G = limitTests G (scaleAndBoundWithin G) ++ (test (leb (smallestWidth G) mostWidth) 20 ∷ [])
+quoteTests G = quoteLimits G ++ (test (leb (smallestWidth G) mostWidth) 20 ∷ [])
 
 abbrev pub quoteNumber : Setting → ℕ
 quoteNumber G = firstFailed (quoteTests G)

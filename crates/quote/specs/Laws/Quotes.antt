@@ -20,16 +20,16 @@ use mathlib.Core.Bool.{true≢false}
 use borrow.Author.Tests.{le-leb, lt-leb, ne-eqb}
 use lib.Dec.{leb}
 use Rattle.ticket.specs.declared.setting.Setting.{Setting}
-use Rattle.ticket.specs.Rules.{Test, test, mostWidth, scaleAndBoundWithin, fitsWidth, limitTests, settingNumber}
+use Rattle.ticket.specs.Rules.{Test, test, mostWidth, scaleAndBoundWithin, fitsWidth, settingNumber}
 use Rattle.ticket.specs.Laws.Limits.{LimitRow, limit-in-table, limits-of, setting-holds}
 use Rattle.ticket.specs.Laws.Tests.{Failed, hold-or-failed, holding-number, failed-number, hold-then, failed-before, failed-last}
 use Rattle.ticket.specs.Laws.Widths.{widened, width-unread, widened-number}
 use Rattle.quote.specs.declared.Quote.{Quote}
-use Rattle.quote.specs.Rules.{smallestWidth, quoteTests, figures, noFigures, quoteOf}
+use Rattle.quote.specs.Rules.{smallestWidth, quoteLimits, quoteTests, figures, noFigures, quoteOf}
 use Rattle.quote.specs.Laws.Widths.{Smallest, NoneFits, smallest-is, none-is, smallest-or-none, LimitsHold, limit-number, tried, tried-fits}
 
 pub data QuoteFor (G : Setting) : Quote → Type 0 where
-  limit-fails : {c : ℕ} → Failed (limitTests G (scaleAndBoundWithin G)) c → QuoteFor G (noFigures c)
+  limit-fails : {c : ℕ} → Failed (quoteLimits G) c → QuoteFor G (noFigures c)
   no-width : LimitsHold G → NoneFits G → QuoteFor G (noFigures 20)
   smallest-width : {v : ℕ} → LimitsHold G → Smallest G v → QuoteFor G (figures G v)
 
@@ -59,7 +59,7 @@ module _ (G : Setting) where
       ⊎-elim
       (λ h. ⊎-elim (λ s. (figures G (s .0), smallest-width h (s .1))) (λ none. (noFigures 20, no-width h none)) (smallest-or-none G))
       (λ f. (noFigures (f .0), limit-fails (f .1)))
-      (hold-or-failed (limitTests G (scaleAndBoundWithin G)))
+      (hold-or-failed (quoteLimits G))
 
   pub quote-exactly : (q : Quote) → (quoteOf G ≡ q) ↔ QuoteFor G q
   quote-exactly q = (λ e. let same : quote-for .0 ≡ q = sym (quote-of (quote-for .1)) ∙ e in rw same at (quote-for .1), quote-of)

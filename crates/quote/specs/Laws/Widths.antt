@@ -20,12 +20,12 @@ use mathlib.Core.Path.{_≡_, refl, ap, subst⁻¹, _∙_}
 use mathlib.Core.Bool.{true, false, not}
 use borrow.Author.Tests.{not-true, not-false}
 use Rattle.ticket.specs.declared.setting.Setting.{Setting}
-use Rattle.ticket.specs.Rules.{test, mostWidth, scaleAndBoundWithin, fitsWidth, limitTests, settingNumber}
+use Rattle.ticket.specs.Rules.{test, mostWidth, scaleAndBoundWithin, fitsWidth, settingNumber}
 use Rattle.ticket.specs.Laws.First.{true-or-false, first-none, first-is, holds-or-first}
 use Rattle.ticket.specs.Laws.Limits.{LimitRow, limit-in-table, sizes-row, numbers-row, bias-bound-row, rounding-row}
 use Rattle.ticket.specs.Laws.Tests.{AllHold, Failed, hold-or-failed, holding-number, failed-number, hold-then, failed-before, failed-last}
 use Rattle.ticket.specs.Laws.Widths.{widened, widened-number}
-use Rattle.quote.specs.Rules.{smallestWidth}
+use Rattle.quote.specs.Rules.{smallestWidth, quoteLimits}
 
 pub record Smallest (G : Setting) (v : ℕ) : Type 0 where
   pub from-one : 1 ≤ v
@@ -66,10 +66,10 @@ module _ (G : Setting) where
       (holds-or-first mostWidth (λ k. not (fitsWidth G (suc k))))
 
 abbrev pub LimitsHold : Setting → Type 0
-LimitsHold G = AllHold (limitTests G (scaleAndBoundWithin G))
+LimitsHold G = AllHold (quoteLimits G)
 
 pub data Tried (G : Setting) (v : ℕ) : ℕ → Type 0 where
-  refused : {c : ℕ} → Failed (limitTests G (scaleAndBoundWithin G)) c → Tried G v c
+  refused : {c : ℕ} → Failed (quoteLimits G) c → Tried G v c
   unfit : LimitsHold G → fitsWidth G v ≡ false → Tried G v 3
   fitting : LimitsHold G → fitsWidth G v ≡ true → Tried G v 0
 
@@ -81,10 +81,10 @@ tried G v low high =
     (λ h. ⊎-elim (λ e. subst⁻¹ (Tried G v) (number ∙ holding-number (hold-then fit h e)) (fitting h e))
     (λ e. subst⁻¹ (Tried G v) (number ∙ failed-number (failed-last fit h e)) (unfit h e)) (true-or-false (fitsWidth G v)))
     (λ f. subst⁻¹ (Tried G v) (number ∙ failed-number (failed-before fit (f .1))) (refused (f .1)))
-    (hold-or-failed (limitTests G (scaleAndBoundWithin G)))
+    (hold-or-failed (quoteLimits G))
 
 -- a limit that fails has none of the numbers of the tests behind the limits
-pub limit-number : (G : Setting) {c : ℕ} → Failed (limitTests G (scaleAndBoundWithin G)) c → (c ≡ 0 → ⊥) × (c ≡ 3 → ⊥) × (c ≡ 20 → ⊥)
+pub limit-number : (G : Setting) {c : ℕ} → Failed (quoteLimits G) c → (c ≡ 0 → ⊥) × (c ≡ 3 → ⊥) × (c ≡ 20 → ⊥)
 limit-number G f = of-row (limit-in-table G (scaleAndBoundWithin G) f)
   where
     of-row : {c : ℕ} → LimitRow G c → (c ≡ 0 → ⊥) × (c ≡ 3 → ⊥) × (c ≡ 20 → ⊥)
@@ -104,7 +104,7 @@ module _ {G : Setting} {v : ℕ} where
   tried-unfit (unfit h u) e = (h, u)
   tried-unfit (fitting h u) e = absurd (omega arith)
 
-  pub tried-refused : {c : ℕ} → Tried G v c → (c ≡ 0 → ⊥) → (c ≡ 3 → ⊥) → Failed (limitTests G (scaleAndBoundWithin G)) c
+  pub tried-refused : {c : ℕ} → Tried G v c → (c ≡ 0 → ⊥) → (c ≡ 3 → ⊥) → Failed (quoteLimits G) c
   tried-refused (refused f) zero three = f
   tried-refused (unfit h u) zero three = absurd (three refl)
   tried-refused (fitting h u) zero three = absurd (zero refl)
