@@ -19,9 +19,6 @@ pub struct Quote {
     pub challenge: u32,
 }
 
-// The number of a setting within its limits that does not fit.
-const UNFIT: u32 = 3;
-
 // The quote of every setting. Its width is not read: the widths are tried, from 1 on.
 pub fn quote_of(setting: Setting) -> Quote
     ensures { λ r. ⌜ r ≡ quoteOf setting ⌝ }
@@ -33,7 +30,7 @@ pub fn quote_of(setting: Setting) -> Quote
         if number == 0 {
             return figures(tried);
         }
-        if number != UNFIT {
+        if number != Setting::UNFIT {
             return no_figures(number);
         }
         width += 1;

@@ -63,6 +63,9 @@ impl Setting {
 
     const MOST_BIAS_BOUND: u32 = 32_768 * 32_768;
 
+    // the number of a setting that is within its limits and does not fit
+    pub const UNFIT: u32 = 3;
+
     // the bytes of the longest ticket without a bias, which is that of the largest sizes
     pub const LONGEST_TICKET: usize = RECORD
         * (Setting::MOST_ROWS * Setting::MOST_INNER
@@ -80,7 +83,7 @@ impl Setting {
         if !self.numbers_within() {
             return 2;
         }
-        let fitting = unless(self.fits(half), 3, 0);
+        let fitting = unless(self.fits(half), Setting::UNFIT, 0);
         let rounding = unless(self.rounding_within(), 19, fitting);
         unless(self.bias_within(), 17, rounding)
     }
