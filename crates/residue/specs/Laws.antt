@@ -6,7 +6,6 @@
 --   Primes      primality from a trial division (R1), Euclid's lemma (R3)
 --   Modulus     the modulus of the delivery is prime (R1)
 --   Powers      powers of two
---   Tables      a table's rule from one computation over the table (R5)
 --   Sums        sums over a count
 --   Products    exact sums of products in two words
 --   Signed      signed machine numbers, as a cast or a sum reads and writes them
@@ -17,7 +16,6 @@ pub mod Residues
 pub mod Primes
 pub mod Modulus
 pub mod Powers
-pub mod Tables
 pub mod Sums
 pub mod Products
 pub mod Signed

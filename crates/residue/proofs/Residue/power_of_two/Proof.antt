@@ -1,18 +1,17 @@
 use native.Mathlib.Omega.{arith}
 use mathlib.Core.Path.{sym}
-use Rattle.residue.specs.Rules.{powerOfTwo}
-use Rattle.residue.specs.Laws.Powers.{power-beyond}
-use Rattle.residue.specs.Laws.Tables.{table-rule}
-use borrow.Author.Needs.{needs}
+use lib.Dec.{lit<}
+use lib.Pow.{shl-exact}
+use Rattle.residue.specs.Laws.Powers.{power-within, power-beyond}
 use Rattle.residue.proofs.Residue.power_of_two.Statement.{statement}
 use Rattle.residue.proofs.Residue.power_of_two.Tie as tie
 
--- the computation over the table: its 31 entries are those of the rule
+returns : tie.Need-returns
+returns c = sym (power-beyond _ (omega arith))
+
+-- no bit is shifted out of the word
 returns-2 : tie.Need-returns-2
-unfolding powerOfTwo
-returns-2 c = table-rule powerOfTwo 31 (c .before .args .k) (omega arith)
+returns-2 c = let k = c .before .args .k in omega (arith, shl-exact {a = 1} 1 k 32 (lit< tt) (omega arith), power-within k (omega arith))
 
 pub power-of-two-spec : {M : Type 1} → statement M
-power-of-two-spec =
-    tie.close
-    (tie.spec (λ c. sym (power-beyond _ (c .if1 .taken))) (λ c. search needs) (λ c. search needs) returns-2)
+power-of-two-spec = tie.close (tie.spec returns (λ c. omega arith) returns-2)
