@@ -3,11 +3,12 @@
 //! the challenge check, the full check, the writer and the program in a module
 //! each, and, for those who test them, the making of tickets, true and false, and
 //! what the marked examples share. Of the paper of change requests the first
-//! three are followed. "Bias from the autumn model": both checks and the writer
+//! four are followed. "Bias from the autumn model": both checks and the writer
 //! have a call for bias tickets beside the plain one, and the rules that are the
 //! same are written once. "Rounding to the nearest": the setting has a rounding
 //! number o, and every call goes by it. "Quoting for a layer before it is built":
-//! the quote, for plain and for bias tickets, in a module of its own.
+//! the quote, for plain and for bias tickets, in a module of its own. "The power
+//! table goes": a power of two is worked out by its formula.
 //!
 //! Everything is exact integer arithmetic in `i128`. Every residue goes through
 //! one definition of the least residue. Every function takes every input,
@@ -100,9 +101,9 @@ pub fn to_signed(x: u32) -> i32 {
     entry as i32
 }
 
-/// The power of two with exponent k: "Powers of two up to 2^30 come from a
-/// table of 31 entries; an exponent above 30 gives 0." Here the entry is found
-/// by doubling 1, k times.
+/// The power of two with exponent k: "Work the power out by its formula." The
+/// formula is 1 doubled k times, for "Powers of two up to 2^30"; "an exponent
+/// above 30 gives 0."
 pub fn power_of_two(k: u32) -> u32 {
     if k > 30 {
         return 0;
@@ -299,10 +300,33 @@ mod tests {
     }
 
     #[test]
+    fn each_power_is_twice_the_one_before() {
+        for k in 1..=30 {
+            assert_eq!(power_of_two(k), 2 * power_of_two(k - 1));
+        }
+    }
+
+    #[test]
     fn exponents_above_30_give_0() {
-        assert_eq!(power_of_two(31), 0);
-        assert_eq!(power_of_two(32), 0);
-        assert_eq!(power_of_two(4294967295), 0);
+        for k in 31..=64 {
+            assert_eq!(power_of_two(k), 0);
+        }
+        assert_eq!(power_of_two(2147483648), 0); // 2^31
+        assert_eq!(power_of_two(4294967295), 0); // 2^32 - 1
+    }
+
+    #[test]
+    fn exponents_whose_low_bits_are_a_small_exponent_give_0() {
+        for k in 0..=30 {
+            // 2^5, 2^8, 2^16 and 2^31: one bit above the low ones.
+            for high in [32, 256, 65536, 2147483648] {
+                assert_eq!(power_of_two(high + k), 0);
+            }
+            // 2^32 - 2^5, 2^32 - 2^8 and 2^32 - 2^16: every bit above them.
+            for high in [4294967264, 4294967040, 4294901760] {
+                assert_eq!(power_of_two(high + k), 0);
+            }
+        }
     }
 
     #[test]

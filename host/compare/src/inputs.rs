@@ -1,5 +1,5 @@
-//! The inputs of the residue calls: corner values in all pairs, and
-//! pseudo-random numbers that are the same in every run.
+//! The inputs of the residue calls: corner values in all pairs, pseudo-random
+//! numbers that are the same in every run, and exponents.
 
 use apart::P;
 
@@ -85,4 +85,18 @@ pub fn random(seed: u64, count: usize) -> impl Iterator<Item = (u32, u32)> {
         }
     };
     std::iter::repeat_with(move || (word(), word())).take(count)
+}
+
+/// Every exponent up to 2^16, the corner values, and runs of 32 exponents above:
+/// from each power of two on, up to each, and from as far below 2^32 on. The low
+/// bits of these are an exponent up to 31, for which a shift or a narrower number
+/// would take them.
+pub fn exponents() -> impl Iterator<Item = u32> {
+    let powers = || (16..32).map(|bits| 1u32 << bits);
+    let below_the_end = (5..32).map(|bits| (1u32 << bits).wrapping_neg());
+    let runs = powers()
+        .chain(powers().map(|power| power - 32))
+        .chain(below_the_end)
+        .flat_map(|first| first..=first + 31);
+    (0..=1 << 16).chain(corners()).chain(runs)
 }

@@ -1,11 +1,12 @@
 //! Compares every call of the proved library with the implementation written
 //! apart from it: the residue calls on all pairs of corner values and on random
-//! inputs, the two checks and the writer, for plain tickets and for bias tickets,
-//! on families of cases, and the quotes for both on families of settings. Each
-//! residue call and each family is one test, which also holds the digest of its
-//! answers to digests.txt. It is one more that the checks, the writers and the
-//! quotes gave each of their numbers at some case, and one that every line of
-//! digests.txt was met. The last line says how many passed, and how many did not.
+//! inputs, and the power of two on every exponent up to 2^16 and on corners above;
+//! the two checks and the writer, for plain tickets and for bias tickets, on
+//! families of cases; and the quotes for both on families of settings. Each family
+//! is one test, which also holds the digest of its answers to digests.txt. It is
+//! one more that the checks, the writers and the quotes gave each of their numbers
+//! at some case, and one that every line of digests.txt was met. The last line says
+//! how many passed, and how many did not.
 //!
 //! Usage: `compare [--write-digests]`
 
@@ -41,10 +42,10 @@ fn main() -> ExitCode {
     };
     let mut run = Run::default();
     let mut inputs = 0;
-    for (seed, call) in (1..).zip(&residues::CALLS) {
-        let outcome = residues::compare(call, residues::inputs_of(seed));
+    for family in residues::all() {
+        let outcome = residues::compare(family.call, family.inputs);
         inputs += outcome.compared;
-        run.take(outcome.report(call, &mut digests));
+        run.take(outcome.report(family.name, &mut digests));
     }
     let mut numbers = Numbers::default();
     let families = families::all();

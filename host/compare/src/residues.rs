@@ -1,4 +1,5 @@
-//! The residue calls: each on all pairs of corner values, and on random inputs.
+//! The residue calls: each on all pairs of corner values and on random inputs,
+//! and the power of two on exponents of its own.
 
 use digests::{Digest, Digests};
 
@@ -7,6 +8,7 @@ use crate::outcome::{agreed, Report};
 
 /// What both sides answer to one input. A call of one argument passes over the
 /// second number.
+#[derive(Clone, Copy, Debug, PartialEq)]
 struct Answers {
     library: i64,
     apart: i64,
@@ -37,21 +39,39 @@ pub const CALLS: [Call; 7] = [
     call!(multiply, |x, y| x, y),
     call!(from_signed, |x, _y| x as i32),
     call!(to_signed, |x, _y| x),
-    call!(power_of_two, |x, _y| x),
+    POWER_OF_TWO,
 ];
+
+const POWER_OF_TWO: Call = call!(power_of_two, |x, _y| x);
 
 pub const RANDOM: usize = 1_000_000;
 
-/// The inputs of a call; `seed` makes the random ones.
-pub fn inputs_of(seed: u64) -> impl Iterator<Item = (u32, u32)> {
-    inputs::pairs().chain(inputs::random(seed, RANDOM))
+/// A call, and what it is compared on.
+pub struct Family {
+    pub name: &'static str,
+    pub call: &'static Call,
+    pub inputs: Box<dyn Iterator<Item = (u32, u32)>>,
 }
 
-/// What the comparison of a call found.
+pub fn all() -> Vec<Family> {
+    let every_call = (1..).zip(&CALLS).map(|(seed, call)| Family {
+        name: call.name,
+        call,
+        inputs: Box::new(inputs::pairs().chain(inputs::random(seed, RANDOM))),
+    });
+    let exponents = Family {
+        name: "exponents",
+        call: &POWER_OF_TWO,
+        inputs: Box::new(inputs::exponents().map(|k| (k, 0))),
+    };
+    every_call.chain([exponents]).collect()
+}
+
+/// What the comparison of a family found.
 pub struct Outcome {
     pub compared: u64,
-    /// The first input at which the sides differ.
-    differs: Option<(u32, u32)>,
+    /// The first input at which the sides differ, and what they say there.
+    differs: Option<(u32, u32, Answers)>,
     /// Of all numbers that the library gave.
     digest: Digest,
 }
@@ -67,24 +87,21 @@ pub fn compare(call: &Call, inputs: impl Iterator<Item = (u32, u32)>) -> Outcome
         outcome.compared += 1;
         outcome.digest.update(&answers.library.to_le_bytes());
         if answers.library != answers.apart && outcome.differs.is_none() {
-            outcome.differs = Some((x, y));
+            outcome.differs = Some((x, y, answers));
         }
     }
     outcome
 }
 
 impl Outcome {
-    pub fn report(&self, call: &Call, digests: &mut Digests) -> Report {
-        let (name, compared, digest) = (call.name, self.compared, self.digest);
+    pub fn report(&self, name: &str, digests: &mut Digests) -> Report {
+        let (compared, digest) = (self.compared, self.digest);
         let on_file = digests.take(name, compared, digest);
         match self.differs {
             None => agreed(format!("{name}: {compared} inputs, no difference"), digest, on_file),
-            Some((x, y)) => {
-                let Answers { library, apart } = (call.answers)(x, y);
-                Err(format!(
-                    "{name}: at {x}, {y} the library says {library}, the implementation written apart {apart}"
-                ))
-            }
+            Some((x, y, Answers { library, apart })) => Err(format!(
+                "{name}: at {x}, {y} the library says {library}, the implementation written apart {apart}"
+            )),
         }
     }
 }
@@ -105,7 +122,8 @@ mod tests {
         };
         let outcome = compare(&one_off, [(1, 2), (u32::MAX, 0), (3, 4)].into_iter());
         assert_eq!(outcome.compared, 3);
-        assert_eq!(outcome.differs, Some((u32::MAX, 0)));
+        let differs = outcome.differs.expect("2^32 - 1 is not reduced");
+        assert_eq!((differs.0, differs.1), (u32::MAX, 0));
     }
 
     #[test]
@@ -135,8 +153,23 @@ mod tests {
         let changed = line.replace(": 2 ", ": 3 ");
         for (text, right) in [(line.as_str(), true), (&changed, false), ("", false)] {
             let mut digests = Digests::new("digests.txt", text, &[]).expect("no argument");
-            assert_eq!(outcome.report(call, &mut digests).is_ok(), right);
+            assert_eq!(outcome.report(call.name, &mut digests).is_ok(), right);
         }
+    }
+
+    /// A power that is right up to 2^16 and takes another exponent for one above.
+    #[test]
+    fn an_exponent_taken_for_another_is_noticed() {
+        let noticed = |taken: &dyn Fn(u32) -> u32| {
+            let wrong = |k| apart::power_of_two(taken(k)) != apart::power_of_two(k);
+            inputs::exponents().any(|k| k > 1 << 16 && wrong(k))
+        };
+        assert!(!noticed(&|k| k));
+        for bits in 16..32 {
+            assert!(noticed(&|k| k % (1 << bits)), "the low {bits} bits");
+        }
+        assert!(noticed(&|k| k.wrapping_add(1)), "one more");
+        assert!(noticed(&|k| (k as i32).unsigned_abs()), "the absolute value");
     }
 
     #[test]
