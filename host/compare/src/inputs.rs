@@ -87,10 +87,10 @@ pub fn random(seed: u64, count: usize) -> impl Iterator<Item = (u32, u32)> {
     std::iter::repeat_with(move || (word(), word())).take(count)
 }
 
-/// Every exponent up to 2^16, the corner values, and runs of 32 exponents above:
-/// from each power of two on, up to each, and from as far below 2^32 on. The low
-/// bits of these are an exponent up to 31, for which a shift or a narrower number
-/// would take them.
+/// Every exponent up to 2^16, the corner values, and above 2^16 runs of 32
+/// exponents: from each power of two on, up to each, and from as far below 2^32 on.
+/// A shift, or a narrower number, would take their low bits for them, which are an
+/// exponent up to 31.
 pub fn exponents() -> impl Iterator<Item = u32> {
     let powers = || (16..32).map(|bits| 1u32 << bits);
     let below_the_end = (5..32).map(|bits| (1u32 << bits).wrapping_neg());

@@ -8,7 +8,6 @@ use crate::outcome::{agreed, Report};
 
 /// What both sides answer to one input. A call of one argument passes over the
 /// second number.
-#[derive(Clone, Copy, Debug, PartialEq)]
 struct Answers {
     library: i64,
     apart: i64,
