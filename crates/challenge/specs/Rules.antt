@@ -1,9 +1,11 @@
--- The challenge check, Freivalds' check on ticket bytes (tests 10 to 12): the rules. They are all that a reader has to believe
+-- The challenge check, Freivalds' check on ticket bytes (tests 10 to 12 and 21): the rules. They are all that a reader has to believe
 -- beside those of the crates below; nothing is proved here. G is a setting, t the bytes of a ticket, x a challenge list.
 --
 --   challengeAt G x τ j    number j of vector τ
 --   listNumber x k         11 where number k of the list is not a least residue, else 0
---   listReading G x        the answer of the tests 10 and 11; its number is 0 where the list is well formed
+--   firstNonzero G x τ     the first number of vector τ that is not 0, the number of columns where there is none
+--   vectorNumber G x τ     21 where every number of vector τ is 0, else 0
+--   listReading G x        the answer of the tests 10, 11 and 21, in this order; its number is 0 where the list is well formed
 --   WellFormed G x         it is
 --   productB G t x τ k     number k of the product u of B and vector τ, modulo p
 --   claimSide G t x τ i    row i of the claims times vector τ, modulo p
@@ -40,9 +42,16 @@ challengeAt G x τ j = getD x (τ * G .columns + j) 0
 unfoldable pub listNumber : List ℕ → ℕ → ℕ
 listNumber x k = unless (ltb (getD x k 0) modulus) 11 0
 
+unfoldable pub firstNonzero : Setting → List ℕ → ℕ → ℕ
+firstNonzero G x τ = first (G .columns) (λ j. eqb (challengeAt G x τ j) 0)
+
+unfoldable pub vectorNumber : Setting → List ℕ → ℕ → ℕ
+vectorNumber G x τ = unless (ltb (firstNonzero G x τ) (G .columns)) 21 0
+
 unfoldable pub listReading : Setting → List ℕ → Answer
 listReading G x =
-    unless (eqb (length x) (G .vectors * G .columns)) (refusal 10 0) (firstRefusal 0 (G .vectors * G .columns) (listNumber x))
+    unless (eqb (length x) (G .vectors * G .columns)) (refusal 10 0)
+    (after (firstRefusal 0 (G .vectors * G .columns) (listNumber x)) (firstRefusal 0 (G .vectors) (vectorNumber G x)))
 
 abbrev pub WellFormed : Setting → List ℕ → Type 0
 WellFormed G x = listReading G x .number ≡ 0

@@ -1,12 +1,17 @@
-// The challenge list: tests 10 and 11.
+// The challenge list: tests 10, 11 and 21.
 ghost use mathlib.Core.Path.{_≡_};
+ghost use Prim.Native.Nat.{_+_, _*_, _≤_};
+ghost use lib.Dec.{eqb};
+ghost use lib.ListN.{length, getD};
+ghost use Rattle.algebra.specs.Laws.Fills.{lineAt};
+ghost use Rattle.ticket.specs.Rules.{first, firstRefusal};
 ghost use Rattle.ticket.specs.Laws.Limits.{Counts};
-ghost use Rattle.challenge.specs.Rules.{listReading};
+ghost use Rattle.challenge.specs.Rules.{vectorNumber, listReading};
 use residue::Residue;
 use ticket::Answer;
 use ticket::Setting;
 
-// The answer of the tests 10 and 11; its number is 0 where the list is well formed.
+// The answer of the tests 10, 11 and 21; its number is 0 where the list is well formed.
 pub(crate) fn read_list(setting: Setting, list: &[u32]) -> Answer
     requires { ⌜ Counts setting ⌝ }
     ensures { λ r. ⌜ r ≡ listReading setting (now (list .entry)) ⌝ }
@@ -32,5 +37,49 @@ pub(crate) fn read_list(setting: Setting, list: &[u32]) -> Answer
         }
         k += 1;
     }
+    read_vectors(setting, list)
+}
+
+// The answer of test 21: refused at the first vector of zeros.
+fn read_vectors(setting: Setting, list: &[u32]) -> Answer
+    requires { ⌜ length (now list) ≡ setting .vectors * setting .columns ⌝ }
+    ensures { λ r. ⌜ r ≡ firstRefusal 0 (setting .vectors) (vectorNumber setting (now (list .entry))) ⌝ }
+{
+    let columns = setting.columns as usize;
+    let mut t: u32 = 0;
+    while t < setting.vectors {
+        if first_nonzero(line(list, columns, t)) == columns {
+            return Answer {
+                number: 21,
+                place: t,
+                row: 0,
+                products: 0,
+            };
+        }
+        t += 1;
+    }
     Answer::PASSED
+}
+
+// The first number of a vector that is not 0, the number of all where there is none.
+fn first_nonzero(vector: &[u32]) -> usize
+    ensures { λ r. ⌜ r ≡ first (length (now (vector .entry))) (λ j. eqb (getD (now (vector .entry)) j 0) 0) ⌝ }
+{
+    let mut j = 0;
+    while j < vector.len() {
+        if vector[j] != 0 {
+            return j;
+        }
+        j += 1;
+    }
+    j
+}
+
+// Line number k of a list, which stands line after line, each of the given size.
+pub(crate) fn line(list: &[u32], size: usize, k: u32) -> &[u32]
+    requires { ⌜ k * size + size ≤ length (now list) ⌝ }
+    ensures { λ r. ⌜ now r ≡ lineAt (now (list .entry)) size k ⌝ }
+{
+    let start = (k as usize) * size;
+    &list[start..start + size]
 }

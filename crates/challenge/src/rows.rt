@@ -10,6 +10,7 @@ ghost use Rattle.challenge.specs.Laws.Products.{rowsTimes, RecordsReady}
 ghost use Rattle.challenge.specs.Laws.Rows.{rowAnswer, rowSteps, VectorRowsReady, SidesReady};
 ghost use Rattle.challenge.specs.Laws.Sides.{DecodedTo, RoomFor};
 ghost use Rattle.challenge.specs.Laws.Vectors.{vectorSteps, ListReady, VectorReady};
+use crate::lists::line;
 use crate::lists::read_list;
 use crate::products::dot;
 use crate::products::dot_records;
@@ -222,13 +223,4 @@ fn row_bias(bias: &[u8], k: u32, vector: &[u64]) -> u64
     }
     let start = (k as usize) * vector.len();
     dot_records(bias, start, vector).0 as u64
-}
-
-// Line number k of a list, which stands line after line, each of the given size.
-fn line(list: &[u32], size: usize, k: u32) -> &[u32]
-    requires { ⌜ k * size + size ≤ length (now list) ⌝ }
-    ensures { λ r. ⌜ now r ≡ lineAt (now (list .entry)) size k ⌝ }
-{
-    let start = (k as usize) * size;
-    &list[start..start + size]
 }

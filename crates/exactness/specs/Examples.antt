@@ -12,7 +12,7 @@ use Rattle.ticket.specs.declared.published.PlainSetting.{PlainSetting}
 use Rattle.ticket.specs.declared.Answer.{Answer}
 use Rattle.ticket.specs.Rules.{first, answer, scan, after, firstFailed, sizesWithin, scaleAndBoundWithin, numbersWithin, fitsWidth, limitTests, settingTests, settingNumber, isEntry, shiftedQuotient, parts, part, count, start, records, recordBytes, ticketLength, holder, valueAt, formed, partTests, recordTests, firstRefusal, recordsReading, reading, valueIn, entryA, entryB, quotient, remainder, claim, exactSum, biasedSum, due, plain, withBias, hasBias, biasBound, biasColumns, biasWithin, roundingWithin, mostBiasBound, entryBias, dividend}
 use Rattle.ticket.specs.Examples.{trueTicket, biasTicket, roundedTicket}
-use Rattle.challenge.specs.Rules.{listNumber, listReading, productB, claimSide, operandSide, balanced, firstRow, verdict, challengeCheck}
+use Rattle.challenge.specs.Rules.{listNumber, firstNonzero, vectorNumber, listReading, productB, claimSide, operandSide, balanced, firstRow, verdict, challengeCheck}
 use Rattle.full.specs.Rules.{same, holds, fullVerdict, fullCheck}
 use Rattle.quote.specs.declared.Quote.{Quote}
 use Rattle.quote.specs.Rules.{smallestWidth, quoteTests, noFigures, quoteOf}
@@ -62,6 +62,10 @@ rounded o = plain (numbers 2 10 8 5 o)
 
 both : ℕ → ℕ → Setting
 both o W = withBias (numbers 2 10 8 5 o) W
+
+-- K with s vectors
+several : ℕ → PlainSetting
+several s = record { rows = 2; inner = 2; columns = 2; vectors = s; scale = 10; bound = 8; width = 5; rounding = 0 }
 
 -- A and B with this bias and these quotients and remainders, under the setting G
 under : Setting → List ℤ → List ℤ → List ℤ → Case
@@ -117,6 +121,26 @@ roundedBias =
 unrounded : Case
 unrounded = under (rounded 5) [] (minus 2 ∷ pos 3 ∷ pos 2 ∷ minus 1 ∷ []) trueRemainders
 
+-- the claims of the true case and of the one with a bias, under K with s vectors, the last remainder but for e
+withSeveral : ℕ → ℤ → Case
+withSeveral s e = under (plain (several s)) [] (minus 2 ∷ pos 3 ∷ pos 2 ∷ minus 1 ∷ []) (pos 3 ∷ pos 4 ∷ pos 3 ∷ e ∷ [])
+
+severalBiased : ℕ → ℤ → Case
+severalBiased s e =
+    under (withBias (several s) 23) (biasOf (minus 4) (pos 5)) (minus 3 ∷ pos 5 ∷ pos 0 ∷ pos 0 ∷ []) (pos 9 ∷ pos 7 ∷ pos 0 ∷ e ∷ [])
+
+-- 2 times 3 with one row and one column, and the remainder r
+oneColumn : ℤ → Case
+oneColumn r =
+    record {
+      setting = plain (record { rows = 1; inner = 1; columns = 1; vectors = 1; scale = 10; bound = 8; width = 5; rounding = 0 });
+      A = pos 2 ∷ [];
+      B = pos 3 ∷ [];
+      bias = [];
+      quotient = pos 0 ∷ [];
+      remainder = r ∷ [];
+    }
+
 -- a quote of these figures: width, bytes, products of a full check and of a challenge check
 figured : ℕ → ℕ → ℕ → ℕ → Quote
 figured v bytes sums challenges = record { number = 0; width = v; length = bytes; full = sums; challenge = challenges }
@@ -160,7 +184,7 @@ examples =
     ∷ product trueCase (1 ∷ 2 ∷ []) (pos 11 ∷ minus 9 ∷ [])
     ∷ sides trueCase (1 ∷ 2 ∷ []) (51 ∷ 19 ∷ []) (51 ∷ 19 ∷ [])
     ∷ checks trueCase (1 ∷ 2 ∷ []) (answer 0 0 0 12)
-    -- d
+    -- d: a vector with one zero passes test 21, which none of the cases a to k meets
     ∷ checks (changed (minus 1) (pos 3)) (0 ∷ 5 ∷ []) (answer 0 0 0 12)
     -- e
     ∷ checks (changed (minus 1) (pos 3)) (1 ∷ 5 ∷ []) (answer 12 0 0 8)
@@ -259,6 +283,31 @@ examples =
     ∷ writes roundedBias (ticket roundedBias)
     ∷ checks roundedBias (1 ∷ 2 ∷ []) (answer 0 0 0 16)
     ∷ checksAll roundedBias (answer 0 0 0 8)
+    -- test 21: a vector of zeros, with a true ticket and with a false one, which was accepted with it; with one zero it passes
+    ∷ checks trueCase (0 ∷ 0 ∷ []) (answer 21 0 0 0)
+    ∷ checks (changed (minus 1) (pos 3)) (0 ∷ 0 ∷ []) (answer 21 0 0 0)
+    ∷ checks trueCase (0 ∷ 5 ∷ []) (answer 0 0 0 12)
+    ∷ checks trueCase (5 ∷ 0 ∷ []) (answer 0 0 0 12)
+    -- the first of several, with its t; zeros that stand together in two vectors pass
+    ∷ checks (withSeveral 2 (pos 8)) (0 ∷ 0 ∷ 1 ∷ 2 ∷ []) (answer 21 0 0 0)
+    ∷ checks (withSeveral 2 (pos 8)) (1 ∷ 2 ∷ 0 ∷ 0 ∷ []) (answer 21 1 0 0)
+    ∷ checks (withSeveral 3 (pos 8)) (1 ∷ 2 ∷ 0 ∷ 0 ∷ 0 ∷ 0 ∷ []) (answer 21 1 0 0)
+    ∷ checks (withSeveral 3 (pos 8)) (1 ∷ 2 ∷ 3 ∷ 4 ∷ 0 ∷ 0 ∷ []) (answer 21 2 0 0)
+    ∷ checks (withSeveral 2 (pos 8)) (1 ∷ 0 ∷ 0 ∷ 2 ∷ []) (answer 0 0 0 24)
+    -- 10 and 11 come before it, 11 at a later place too, and 12 after it, at an earlier vector too
+    ∷ checks (withSeveral 2 (pos 8)) (0 ∷ 0 ∷ 1 ∷ []) (answer 10 0 0 0)
+    ∷ checks (withSeveral 2 (pos 8)) (0 ∷ 0 ∷ 1 ∷ modulus ∷ []) (answer 11 3 0 0)
+    ∷ checks (withSeveral 2 (pos 7)) (1 ∷ 2 ∷ 0 ∷ 0 ∷ []) (answer 21 1 0 0)
+    ∷ checks (withSeveral 2 (pos 7)) (1 ∷ 2 ∷ 0 ∷ 1 ∷ []) (answer 12 0 1 12)
+    -- and with a bias
+    ∷ checks biasCase (0 ∷ 0 ∷ []) (answer 21 0 0 0)
+    ∷ checks falseBias (0 ∷ 0 ∷ []) (answer 21 0 0 0)
+    ∷ checks (severalBiased 2 (pos 3)) (1 ∷ 0 ∷ 0 ∷ 0 ∷ []) (answer 21 1 0 0)
+    ∷ checks (severalBiased 2 (pos 3)) (1 ∷ 0 ∷ 0 ∷ 2 ∷ []) (answer 0 0 0 32)
+    -- with one column a false ticket is accepted with no list
+    ∷ checks (oneColumn (pos 6)) (1 ∷ []) (answer 0 0 0 3)
+    ∷ checks (oneColumn (pos 7)) (1 ∷ []) (answer 12 0 0 3)
+    ∷ checks (oneColumn (pos 7)) (0 ∷ []) (answer 21 0 0 0)
     -- quotes: K, whose width of 31 or 0 is not read; K with a bias, of which 23 is the largest that 5 bits do for; K with rounding, and both
     ∷ quotes (setting 2 10 8 31) (figured 5 128 8 12)
     ∷ quotes (biased 23) (figured 5 160 8 16)
@@ -307,9 +356,9 @@ examples-hold : map by-rules examples ≡ examples
 unfolding modulus leastResidue signedEntry sumℤ matrixProduct floorDivision first scan after firstFailed sizesWithin scaleAndBoundWithin
     numbersWithin fitsWidth limitTests settingTests isEntry shiftedQuotient parts part count start records ticketLength holder valueAt
     formed partTests recordTests firstRefusal recordsReading reading valueIn entryA entryB quotient remainder claim exactSum biasedSum
-    hasBias biasBound biasColumns biasWithin roundingWithin entryBias listNumber listReading productB claimSide operandSide balanced
+    hasBias biasBound biasColumns biasWithin roundingWithin entryBias listNumber firstNonzero vectorNumber listReading productB claimSide operandSide balanced
     firstRow verdict challengeCheck same holds fullVerdict fullCheck joined beyondNumber operandsReading writing quotientOf remainderOf
-    integersOf integerIn recordOf ticketRecord ticketOf minus recordsFrom ticket numbers setting biased rounded both under claiming
-    biasedBy biasOf biasCase falseBias trueRemainders trueCase changed roundedBy roundedBias unrounded trueTicket biasTicket roundedTicket
+    integersOf integerIn recordOf ticketRecord ticketOf minus recordsFrom ticket numbers setting biased rounded both several under claiming
+    biasedBy biasOf biasCase falseBias trueRemainders trueCase changed roundedBy roundedBias unrounded withSeveral severalBiased oneColumn trueTicket biasTicket roundedTicket
     smallestWidth quoteTests quoteOf figured examples each by-rules
 examples-hold = refl

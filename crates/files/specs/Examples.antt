@@ -9,7 +9,7 @@ use Rattle.algebra.specs.Rules.{sumℤ}
 use Rattle.ticket.specs.declared.Answer.{Answer}
 use Rattle.ticket.specs.Rules.{answer, first, scan, after, firstFailed, sizesWithin, scaleAndBoundWithin, numbersWithin, fitsWidth, limitTests, settingTests, isEntry, shiftedQuotient, parts, part, count, start, records, ticketLength, holder, valueAt, formed, partTests, recordTests, firstRefusal, recordsReading, reading, valueIn, entryA, entryB, quotient, remainder, claim, hasBias, biasBound, biasColumns, biasWithin, roundingWithin, entryBias}
 use Rattle.ticket.specs.Examples.{trueTicket, roundedTicket}
-use Rattle.challenge.specs.Rules.{listNumber, listReading, productB, claimSide, operandSide, balanced, firstRow, verdict, challengeCheck}
+use Rattle.challenge.specs.Rules.{listNumber, firstNonzero, vectorNumber, listReading, productB, claimSide, operandSide, balanced, firstRow, verdict, challengeCheck}
 use Rattle.files.specs.Rules.{wordAt, settingOf, numbersOf, fileCheck, digitsOf, decimal, field, lineOf}
 
 -- ℓ = m = n = 2, s = 1, α = 10, T = 8, v = 5, and o, of one byte
@@ -55,6 +55,9 @@ examples =
     ∷ answers setting trueTicket (take 7 challenge) (answer 10 0 0 0)
     ∷ answers setting trueTicket (challenge ++ (0x00 ∷ [])) (answer 10 0 0 0)
     ∷ answers setting trueTicket [] (answer 10 0 0 0)
+    -- a vector of zeros, and one with one zero
+    ∷ answers setting trueTicket (0x00 ∷ 0x00 ∷ 0x00 ∷ 0x00 ∷ 0x00 ∷ 0x00 ∷ 0x00 ∷ 0x00 ∷ []) (answer 21 0 0 0)
+    ∷ answers setting trueTicket (0x00 ∷ 0x00 ∷ 0x00 ∷ 0x00 ∷ 0x02 ∷ 0x00 ∷ 0x00 ∷ 0x00 ∷ []) (answer 0 0 0 12)
     -- a ticket of another length comes before a challenge file of another length
     ∷ answers setting (take 127 trueTicket) (take 7 challenge) (answer 4 0 0 0)
     -- no file: the line 1 0 0 0
@@ -75,7 +78,7 @@ examples-hold : map by-rules examples ≡ examples
 unfolding modulus leastResidue signedEntry sumℤ first scan after firstFailed sizesWithin scaleAndBoundWithin numbersWithin fitsWidth
     limitTests settingTests isEntry shiftedQuotient parts part count start records ticketLength holder valueAt formed partTests
     recordTests firstRefusal recordsReading reading valueIn entryA entryB quotient remainder claim hasBias biasBound biasColumns
-    biasWithin roundingWithin entryBias listNumber listReading productB claimSide operandSide balanced firstRow verdict challengeCheck
+    biasWithin roundingWithin entryBias listNumber firstNonzero vectorNumber listReading productB claimSide operandSide balanced firstRow verdict challengeCheck
     wordAt settingOf numbersOf fileCheck digitsOf decimal field lineOf rounded setting trueTicket roundedTicket challenge examples
     by-rules
 examples-hold = refl

@@ -30,8 +30,8 @@ pub(crate) struct Refusal {
 
 impl From<Refusal> for Answer {
     /// "Row and products are 0 except for 12 and 16." The place is a record of
-    /// the ticket or an index of a list or of the operands, all of a length that
-    /// is right, so nothing is lost.
+    /// the ticket, a vector of a list or an index of a list or of the operands,
+    /// all of a length that is right, so nothing is lost.
     fn from(Refusal { number, place }: Refusal) -> Answer {
         Answer {
             number,

@@ -8,7 +8,7 @@ use crate::{least_residue, Answer, BiasSetting, Setting, P};
 
 /// The answer to a setting, the bytes of a ticket and a list, by the order "1,
 /// 2, 3, 4; then record after record, each by 5, 6 and its own range; then 10,
-/// 11, 12", with 19 "after 2".
+/// 11, 12", with 19 "after 2" and 21 "once every list number has passed 11".
 pub fn challenge_check(setting: &Setting, ticket: &[u8], list: &[u32]) -> Answer {
     decide(&Terms::from(setting), ticket, list).unwrap_or_else(Answer::from)
 }
@@ -27,7 +27,8 @@ fn decide(terms: &Terms, ticket: &[u8], list: &[u32]) -> Result<Answer, Refusal>
 }
 
 /// "The list holds s vectors of n least residues, the vectors one after
-/// another."
+/// another." The tests 10, 11 and 21, in this order: "A vector all of whose
+/// numbers are zero is no challenge and is to be turned away."
 pub(crate) fn read_list(setting: &Setting, list: &[u32]) -> Result<Vec<Vec<i128>>, Refusal> {
     // Both are small here.
     let count = (setting.vectors * setting.columns) as usize;
@@ -35,9 +36,15 @@ pub(crate) fn read_list(setting: &Setting, list: &[u32]) -> Result<Vec<Vec<i128>
         return Err(Refusal { number: 10, place: 0 });
     }
     let numbers: Vec<i128> = list.iter().copied().map(i128::from).collect();
-    match numbers.iter().position(|&number| number >= P) {
-        Some(place) => Err(Refusal { number: 11, place }),
-        None => Ok(numbers.chunks(setting.columns as usize).map(<[i128]>::to_vec).collect()),
+    if let Some(place) = numbers.iter().position(|&number| number >= P) {
+        return Err(Refusal { number: 11, place });
+    }
+    let columns = setting.columns as usize;
+    let vectors: Vec<Vec<i128>> = numbers.chunks(columns).map(<[i128]>::to_vec).collect();
+    // "It refuses the first such vector as 21 with its t"
+    match vectors.iter().position(|x| x.iter().all(|&number| number == 0)) {
+        Some(place) => Err(Refusal { number: 21, place }),
+        None => Ok(vectors),
     }
 }
 
@@ -124,3 +131,6 @@ mod bias_tests;
 
 #[cfg(test)]
 mod rounding_tests;
+
+#[cfg(test)]
+mod zeros_tests;

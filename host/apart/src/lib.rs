@@ -3,12 +3,13 @@
 //! the challenge check, the full check, the writer and the program in a module
 //! each, and, for those who test them, the making of tickets, true and false, and
 //! what the marked examples share. Of the paper of change requests the first
-//! four are followed. "Bias from the autumn model": both checks and the writer
+//! five are followed. "Bias from the autumn model": both checks and the writer
 //! have a call for bias tickets beside the plain one, and the rules that are the
 //! same are written once. "Rounding to the nearest": the setting has a rounding
 //! number o, and every call goes by it. "Quoting for a layer before it is built":
 //! the quote, for plain and for bias tickets, in a module of its own. "The power
-//! table goes": a power of two is worked out by its formula.
+//! table goes": a power of two is worked out by its formula. "A vector of zeros":
+//! the challenge check refuses a list that holds one, in the program too.
 //!
 //! Everything is exact integer arithmetic in `i128`. Every residue goes through
 //! one definition of the least residue. Every function takes every input,

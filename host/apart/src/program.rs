@@ -52,9 +52,9 @@ pub fn line(answer: &Answer) -> String {
 }
 
 /// The order is the challenge check's, "1, 2, 3, 4; then record after record,
-/// each by 5, 6 and its own range; then 10, 11, 12", with 19 "after 2". The
-/// length of the setting file stands with 1 at its begin, that of the challenge
-/// file with 10, "in its turn".
+/// each by 5, 6 and its own range; then 10, 11, 12", with 19 "after 2" and 21
+/// "once every list number has passed 11". The length of the setting file stands
+/// with 1 at its begin, that of the challenge file with 10, "in its turn".
 fn decide(files: &Files) -> Result<Answer, Refusal> {
     // "A missing file counts as empty".
     let [setting, ticket, list] = [files.setting, files.ticket, files.challenge].map(Option::unwrap_or_default);

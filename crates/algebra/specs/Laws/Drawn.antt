@@ -8,8 +8,11 @@
 --   drawn-other                 where the zero vector is excluded, a vector is another list than n zeros
 --   drawn-exactly               with exactly b allowed numbers there are exactly (b ^ n) ^ s lists; without the zero vector (b ^ n - 1) ^ s
 --   drawn-with-zero             the first of these as one power; with n - 1 for n it is the bound of Soundness
-use Prim.Native.Nat.{ℕ, _+_, _-_, _*_, _^_, _<_}
-use native.Mathlib.Nat.{sub-zero}
+--   drawn-no-more               without the zero vector there are no more
+--   drawn-share                 the bound of Soundness, b ^ s times, is no more than there are lists
+use Prim.Native.Nat.{ℕ, zero, suc, _+_, _-_, _*_, _^_, _≤_, _<_}
+use native.Mathlib.Nat.{sub-zero, pow-zero, pow-suc, pow-le-pow-left, one-le-pow}
+use native.Mathlib.Decide.{ℕ-discrete}
 use native.Mathlib.Omega.{arith}
 use mathlib.Core.Path.{_≡_, refl, sym, ap, _∙_, subst}
 use mathlib.Core.Bool.{Bool, true, false, false≢true, cond}
@@ -85,3 +88,29 @@ module _ {n : ℕ} {P : ℕ → Type 0} where
 
 pub drawn-with-zero : (b n s : ℕ) → (b ^ n - cond false 1 0) ^ s ≡ b ^ (s * n)
 drawn-with-zero b n s = ap (λ m. m ^ s) (sub-zero (b ^ n)) ∙ pow-pow b n s
+
+pub drawn-no-more : (b n s : ℕ) (nonzero : Bool) → (b ^ n - cond nonzero 1 0) ^ s ≤ b ^ (s * n)
+drawn-no-more b n s nonzero = rw (← pow-pow b n s) (pow-le-pow-left (omega arith) s)
+
+-- a power of a product
+product-power : (a b s : ℕ) → a ^ s * b ^ s ≡ (a * b) ^ s
+product-power a b zero = rw (pow-zero a, pow-zero b, pow-zero (a * b))
+product-power a b (suc s) =
+    rw (pow-suc a s, pow-suc b s, pow-suc (a * b) s, ← product-power a b s) (omega arith)
+
+pub drawn-share : (b n s : ℕ) (nonzero : Bool) → 0 < n → (b ^ (n - 1) - cond nonzero 1 0) ^ s * b ^ s ≤ (b ^ n - cond nonzero 1 0) ^ s
+drawn-share b n s nonzero some =
+    rw (product-power (b ^ (n - 1) - cond nonzero 1 0) b s) (pow-le-pow-left (vector nonzero) s)
+  where
+    whole : b ^ n ≡ b ^ (n - 1) * b
+    whole = let last : n ≡ suc (n - 1) = omega arith in ap (λ m. b ^ m) last ∙ pow-suc b (n - 1)
+
+    vector : (nonzero : Bool) → (b ^ (n - 1) - cond nonzero 1 0) * b ≤ b ^ n - cond nonzero 1 0
+    vector false = rw (sub-zero (b ^ (n - 1)), sub-zero (b ^ n)) (omega (arith, whole))
+    vector true = elim (ℕ-discrete b 0) [
+      | yes none ↦ omega (arith, ap (λ m. (b ^ (n - 1) - 1) * m) none)
+      | no other ↦
+          let first : 1 ≤ b ^ (n - 1) = one-le-pow (n - 1) b (omega arith) in
+          let without : b ^ (n - 1) - 1 + 1 ≡ b ^ (n - 1) = omega arith in
+          omega (arith, whole, ap (λ m. m * b) without)
+    ]

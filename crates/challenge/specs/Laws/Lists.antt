@@ -1,14 +1,21 @@
--- The tests 10 and 11 of a challenge list.
+-- The tests 10, 11 and 21 of a challenge list.
 --
 --   number-least          number k of a list passes test 11 exactly when it is a least residue
 --   number-large          where it is not, the test gives 11
---   Entries G x           x is a list of s · n least residues
+--   ZeroVector G x τ      every number of vector τ is 0
+--   vector-other          vector τ passes test 21 exactly when it is not that
+--   vector-zero           where it is, the test gives 21
+--   vector-refused        where it does not pass, it is
+--   line-zero, line-other   both by the first number that is not 0 of the line in which the vector stands
+--   Entries G x           x is a list of s · n least residues, and no vector of it is of zeros
 --   well-formed-is        a list is well formed exactly when it is that
 --   other-length          a list of another length is refused by 10
 --   first-large           the first number that is not a least residue is refused by 11
---   all-least             a list of the right length, of least residues, passes
-use Prim.Native.Nat.{ℕ, _*_, _≤_, _<_}
-use native.Mathlib.Decide.{decLe}
+--   all-least             where the length is right and all numbers are least residues, the vectors are tested
+--   first-refused         the first of them that does not pass is refused by 21
+--   first-zero            so is the first vector of zeros, once all numbers are least residues
+use Prim.Native.Nat.{ℕ, _+_, _*_, _≤_, _<_}
+use native.Mathlib.Decide.{ℕ-discrete, decLe}
 use native.Mathlib.Omega.{arith}
 use mathlib.Core.Path.{_≡_, sym, ap, _∙_}
 use mathlib.Core.Bool.{true}
@@ -18,11 +25,15 @@ use borrow.Author.Tests.{eq-eqb, ne-eqb, eqb-true, lt-ltb, le-ltb}
 use lib.Dec.{eqb}
 use lib.ListN.{length, getD}
 use Rattle.residue.specs.Rules.{modulus}
+use Rattle.algebra.specs.Laws.Fills.{lineAt, part-of, part-long}
+use Rattle.algebra.specs.Laws.Positions.{row-inside}
 use Rattle.ticket.specs.declared.setting.Setting.{Setting}
-use Rattle.ticket.specs.Rules.{refusal, firstRefusal}
-use Rattle.ticket.specs.Laws.Answers.{unless-zero, scan-zero}
-use Rattle.ticket.specs.Laws.Scans.{refusal-none, refusal-is}
-use Rattle.challenge.specs.Rules.{WellFormed, listNumber, listReading}
+use Rattle.ticket.specs.declared.Answer.{Answer}
+use Rattle.ticket.specs.Rules.{first, after, refusal, firstRefusal}
+use Rattle.ticket.specs.Laws.Answers.{unless-zero, after-zero, scan-zero, first-past}
+use Rattle.ticket.specs.Laws.First.{first-within, first-cong}
+use Rattle.ticket.specs.Laws.Scans.{refusal-none, refusal-is, after-passed, after-refused}
+use Rattle.challenge.specs.Rules.{challengeAt, WellFormed, listNumber, firstNonzero, vectorNumber, listReading}
 
 module _ (x : List ℕ) (k : ℕ) where
   pub number-large : modulus ≤ getD x k 0 → listNumber x k ≡ 11
@@ -36,28 +47,94 @@ module _ (x : List ℕ) (k : ℕ) where
     λ h. rw (lt-ltb (getD x k 0) modulus h),
   )
 
+abbrev pub ZeroVector : Setting → List ℕ → ℕ → Type 0
+ZeroVector G x τ = (j : ℕ) → j < G .columns → challengeAt G x τ j ≡ 0
+
+module _ (G : Setting) (x : List ℕ) (τ : ℕ) where
+  -- no number of the vector is the first that is not 0 exactly when all are 0
+  none-first : (firstNonzero G x τ ≡ G .columns) ↔ ZeroVector G x τ
+  unfolding firstNonzero
+  none-first =
+      let past = first-past (G .columns) (λ j. eqb (challengeAt G x τ j) 0) in
+      (λ e j l. eqb-true _ _ (past .0 e j l), λ z. past .1 (λ j l. eq-eqb _ _ (z j l)))
+
+  some-first : firstNonzero G x τ ≤ G .columns
+  unfolding firstNonzero
+  some-first = first-within (G .columns) _
+
+  pub vector-zero : ZeroVector G x τ → vectorNumber G x τ ≡ 21
+  unfolding vectorNumber
+  vector-zero z = rw (le-ltb (firstNonzero G x τ) (G .columns) (omega (arith, none-first .1 z)))
+
+  pub vector-other : (vectorNumber G x τ ≡ 0) ↔ (ZeroVector G x τ → ⊥)
+  unfolding vectorNumber
+  vector-other = (
+    λ e z. omega (arith, vector-zero z),
+    λ d. let less : firstNonzero G x τ ≡ G .columns → ⊥ = λ e. d (none-first .0 e) in
+        rw (lt-ltb (firstNonzero G x τ) (G .columns) (omega (arith, some-first, less))),
+  )
+
+  pub vector-refused : (vectorNumber G x τ ≡ 0 → ⊥) → ZeroVector G x τ
+  vector-refused d =
+      elim (ℕ-discrete (firstNonzero G x τ) (G .columns)) [
+        | yes e ↦ none-first .0 e
+        | no other ↦ absurd (d (vector-other .1 (λ z. other (none-first .1 z))))
+      ]
+
+  -- v is the vector as a line of the list
+  module _ (size : length x ≡ G .vectors * G .columns) (l : τ < G .vectors) {v : List ℕ} (v-is : v ≡ lineAt x (G .columns) τ)
+      {r : ℕ} (r-is : r ≡ first (length v) (λ j. eqb (getD v j 0) 0)) where
+    by-line : r ≡ firstNonzero G x τ
+    unfolding firstNonzero
+    by-line =
+        r-is ∙ rw (v-is, part-long x (τ * G .columns) (G .columns) (omega (arith, row-inside (G .columns) l)))
+        (first-cong (G .columns) _ _ (λ j h. ap (λ y. eqb y 0) (part-of x (τ * G .columns) (G .columns) j 0 h)))
+
+    pub line-zero : r ≡ G .columns → vectorNumber G x τ ≡ 21
+    line-zero e = vector-zero (none-first .0 (sym by-line ∙ e))
+
+    pub line-other : (r ≡ G .columns → ⊥) → vectorNumber G x τ ≡ 0
+    line-other d = vector-other .1 (λ z. d (by-line ∙ none-first .1 z))
+
+-- the first of n numbers that is not 0 makes the answer
+first-number : (n k c : ℕ) (f : ℕ → ℕ) → k < n → ((i : ℕ) → i < k → f i ≡ 0) → f k ≡ c → (c ≡ 0 → ⊥) → refusal c k ≡ firstRefusal 0 n f
+first-number n k c f l before e other =
+    sym (refusal-is 0 n k f l before (λ z. other (sym e ∙ z)) ∙ rw e (ap (refusal c) (omega arith)))
+
 pub record Entries (G : Setting) (x : List ℕ) : Type 0 where
   pub size : length x ≡ G .vectors * G .columns
   pub below : (k : ℕ) → k < G .vectors * G .columns → getD x k 0 < modulus
+  pub other : (τ : ℕ) → τ < G .vectors → ZeroVector G x τ → ⊥
 
 module _ (G : Setting) (x : List ℕ) where
   abbrev count : ℕ
   count = G .vectors * G .columns
 
-  both-tests : WellFormed G x ↔ ((eqb (length x) count ≡ true) × (firstRefusal 0 count (listNumber x) .number ≡ 0))
+  abbrev numbers : Answer
+  numbers = firstRefusal 0 count (listNumber x)
+
+  abbrev vectors : Answer
+  vectors = firstRefusal 0 (G .vectors) (vectorNumber G x)
+
+  all-tests : WellFormed G x ↔ ((eqb (length x) count ≡ true) × (after numbers vectors .number ≡ 0))
   unfolding listReading
-  both-tests = unless-zero (eqb (length x) count) (refusal 10 0) (firstRefusal 0 count (listNumber x)) (λ z. omega arith)
+  all-tests = unless-zero (eqb (length x) count) (refusal 10 0) (after numbers vectors) (λ z. omega arith)
 
   pub well-formed-is : WellFormed G x ↔ Entries G x
   well-formed-is = (
-    λ e. let h = both-tests .0 e in
+    λ e. let h = all-tests .0 e in
+        let passed = after-zero numbers vectors .0 (h .1) in
         record {
           size = eqb-true (length x) count (h .0);
-          below = λ k l. number-least x k .0 (scan-zero 0 count (listNumber x) .0 (h .1) k l);
+          below = λ k l. number-least x k .0 (scan-zero 0 count (listNumber x) .0 (passed .0) k l);
+          other = λ τ l. vector-other G x τ .0 (scan-zero 0 (G .vectors) (vectorNumber G x) .0 (passed .1) τ l);
         },
-    λ h. both-tests .1 (
+    λ h. all-tests .1 (
       eq-eqb (length x) count (h .size),
-      scan-zero 0 count (listNumber x) .1 (λ k l. number-least x k .1 (h .below k l)),
+      after-zero numbers vectors .1 (
+        scan-zero 0 count (listNumber x) .1 (λ k l. number-least x k .1 (h .below k l)),
+        scan-zero 0 (G .vectors) (vectorNumber G x) .1 (λ τ l. vector-other G x τ .1 (h .other τ l)),
+      ),
     ),
   )
 
@@ -65,18 +142,27 @@ module _ (G : Setting) (x : List ℕ) where
   unfolding listReading
   other-length d = rw (ne-eqb (length x) count d)
 
+  pub first-refused : (τ : ℕ) → τ < G .vectors → ((σ : ℕ) → σ < τ → vectorNumber G x σ ≡ 0) → vectorNumber G x τ ≡ 21
+      → refusal 21 τ ≡ firstRefusal 0 (G .vectors) (vectorNumber G x)
+  first-refused τ l before e = first-number (G .vectors) τ 21 (vectorNumber G x) l before e (λ z. omega arith)
+
   module _ (size : length x ≡ count) where
+    sized : listReading G x ≡ after numbers vectors
+    unfolding listReading
+    sized = rw (eq-eqb (length x) count size)
+
     pub first-large : (k : ℕ) → k < count → ((i : ℕ) → i < k → getD x i 0 < modulus) → modulus ≤ getD x k 0
         → refusal 11 k ≡ listReading G x
-    unfolding listReading
     first-large k l before h =
-        let e : listNumber x k ≡ 11 = number-large x k h in
-        rw (eq-eqb (length x) count size)
-        (sym (refusal-is 0 count k (listNumber x) l (λ i m. number-least x i .1 (before i m)) (λ z. omega arith)
-        ∙ rw e (ap (refusal 11) (omega arith))))
+        let e = first-number count k 11 (listNumber x) l (λ i m. number-least x i .1 (before i m)) (number-large x k h) (λ z. omega arith) in
+        sym (sized ∙ after-refused numbers vectors (λ z. omega (arith, ap (λ a. a .number) e ∙ z)) ∙ sym e)
 
-    pub all-least : {k : ℕ} → ((i : ℕ) → i < k → getD x i 0 < modulus) → count ≤ k → refusal 0 0 ≡ listReading G x
-    unfolding listReading
-    all-least all l =
-        rw (eq-eqb (length x) count size)
-        (sym (refusal-none 0 count (listNumber x) (λ i m. number-least x i .1 (all i (omega arith)))))
+    pub all-least : {k : ℕ} {a : Answer} → ((i : ℕ) → i < k → getD x i 0 < modulus) → count ≤ k
+        → a ≡ firstRefusal 0 (G .vectors) (vectorNumber G x) → a ≡ listReading G x
+    all-least all l a-is =
+        a-is ∙ sym (sized ∙ after-passed numbers vectors (scan-zero 0 count (listNumber x) .1 (λ i m. number-least x i .1 (all i (omega arith)))))
+
+    pub first-zero : (τ : ℕ) → ((k : ℕ) → k < count → getD x k 0 < modulus) → τ < G .vectors
+        → ((σ : ℕ) → σ < τ → ZeroVector G x σ → ⊥) → ZeroVector G x τ → refusal 21 τ ≡ listReading G x
+    first-zero τ all l before z =
+        all-least {k = count} all (omega arith) (first-refused τ l (λ σ m. vector-other G x σ .1 (before σ m)) (vector-zero G x τ z))

@@ -31,15 +31,16 @@ use Rattle.ticket.specs.Laws.First.{first-is, FirstFailure, holds-or-first}
 use Rattle.ticket.specs.Laws.Tests.{reading-not-later}
 use Rattle.ticket.specs.Laws.Scans.{scan-none, scan-is, zeros-or-first}
 use Rattle.ticket.specs.Laws.Refusals.{Refused, passed-reading, passed-or-refused, refused-reading, refused-number, ReadingRow, refused-in-table}
-use Rattle.challenge.specs.Rules.{challengeProducts, caughtProducts, listNumber, WellFormed, balanced, firstRow, accepted, caught, verdict, challengeCheck, Accepted}
+use Rattle.challenge.specs.Rules.{challengeProducts, caughtProducts, listNumber, vectorNumber, WellFormed, balanced, firstRow, accepted, caught, verdict, challengeCheck, Accepted}
 use Rattle.challenge.specs.Laws.Checks.{check-ticket, check-list, check-rows}
-use Rattle.challenge.specs.Laws.Lists.{number-least, well-formed-is, other-length, first-large}
+use Rattle.challenge.specs.Laws.Lists.{number-least, ZeroVector, vector-other, vector-refused, well-formed-is, other-length, first-large, first-zero}
 
 pub data TableRow (G : Setting) : Answer → Type 0 where
   accepted-row : TableRow G (answer 0 0 0 (challengeProducts G))
   reading-row : {a : Answer} → ReadingRow G a → TableRow G a
   list-length-row : TableRow G (answer 10 0 0 0)
   list-number-row : (k : ℕ) → k < G .vectors * G .columns → TableRow G (answer 11 k 0 0)
+  zero-vector-row : (τ : ℕ) → τ < G .vectors → TableRow G (answer 21 τ 0 0)
   caught-row : (τ i : ℕ) → τ < G .vectors → i < G .rows → TableRow G (answer 12 τ i (caughtProducts G τ i))
 
 abbrev pub AllBalanced : Setting → List ℕ → List ℕ → Type 0
@@ -64,6 +65,8 @@ pub data Answered (G : Setting) (t x : List ℕ) : Answer → Type 0 where
   list-length : Passes G t → (length x ≡ G .vectors * G .columns → ⊥) → Answered G t x (refusal 10 0)
   list-number : {k : ℕ} → Passes G t → length x ≡ G .vectors * G .columns → k < G .vectors * G .columns
       → ((i : ℕ) → i < k → getD x i 0 < modulus) → modulus ≤ getD x k 0 → Answered G t x (refusal 11 k)
+  zero-vector : {τ : ℕ} → Passes G t → length x ≡ G .vectors * G .columns → ((k : ℕ) → k < G .vectors * G .columns → getD x k 0 < modulus)
+      → τ < G .vectors → ((σ : ℕ) → σ < τ → ZeroVector G x σ → ⊥) → ZeroVector G x τ → Answered G t x (refusal 21 τ)
   first-unbalanced : {τ i : ℕ} → Caught G t x τ i → Answered G t x (caught G τ i)
   all-balanced : Balances G t x → Answered G t x (accepted G)
 
@@ -92,6 +95,7 @@ module _ (G : Setting) (t x : List ℕ) where
   answer-of (refused r) = sym (check-ticket G t x (sym (refused-reading G t r)) (λ z. omega (arith, refused-number G t r)))
   answer-of (list-length p d) = sym (check-list G t x refl p (other-length G x d) (λ z. omega arith))
   answer-of (list-number p e l h m) = sym (check-list G t x refl p (first-large G x e _ l h m) (λ z. omega arith))
+  answer-of (zero-vector {τ} p e a l h z) = sym (check-list G t x refl p (first-zero G x e τ a l h z) (λ z. omega arith))
   answer-of (first-unbalanced c) = sym (check-rows G t x refl (c .ticket) refl (c .list) (sym (verdict-caught c)))
   answer-of (all-balanced b) = sym (check-rows G t x refl (b .ticket) refl (b .list) (sym (verdict-accepted (b .balance))))
 
@@ -118,13 +122,22 @@ module _ (G : Setting) (t x : List ℕ) where
       ))
       (holds-or-first (G .vectors) (λ τ. eqb (firstRow G t x τ) (G .rows)))
 
+  -- a list of the right length, of least residues
+  answered-numbers : Passes G t → length x ≡ G .vectors * G .columns → ((k : ℕ) → k < G .vectors * G .columns → getD x k 0 < modulus)
+      → (a : Answer) × Answered G t x a
+  answered-numbers p e all =
+      ⊎-elim
+      (λ z. answered-vectors p (well-formed-is G x .1 record { size = e; below = all; other = λ τ l. vector-other G x τ .0 (z τ l) }))
+      (λ o. (refusal 21 (o .0), zero-vector p e all (o .1 .within) (λ σ l. vector-other G x σ .0 (o .1 .before σ l)) (vector-refused G x (o .0) (o .1 .other))))
+      (zeros-or-first (G .vectors) (vectorNumber G x))
+
   answered-list : Passes G t → (a : Answer) × Answered G t x a
   answered-list p =
       elim (ℕ-discrete (length x) (G .vectors * G .columns)) [
         | no d ↦ (refusal 10 0, list-length p d)
         | yes e ↦
             ⊎-elim
-            (λ z. answered-vectors p (well-formed-is G x .1 record { size = e; below = λ k l. number-least x k .0 (z k l) }))
+            (λ z. answered-numbers p e (λ k l. number-least x k .0 (z k l)))
             (λ o. let k = o .0 in
             let large : modulus ≤ getD x k 0 =
             elim (decLe modulus (getD x k 0)) [ yes m ↦ m | no m ↦ absurd (o .1 .other (number-least x k .1 (omega arith))) ] in
@@ -150,6 +163,7 @@ module _ (G : Setting) (t x : List ℕ) where
       (λ e. absurd (omega arith), λ e. absurd (reading-not-later l (omega arith) (omega arith)))
   condition-of (list-length p d) = (λ e. absurd (omega arith), λ e. absurd (omega arith))
   condition-of (list-number p c l h m) = (λ e. absurd (omega arith), λ e. absurd (omega arith))
+  condition-of (zero-vector p c a l h z) = (λ e. absurd (omega arith), λ e. absurd (omega arith))
   condition-of (first-unbalanced c) = (λ e. absurd (omega arith), λ e. c)
   condition-of (all-balanced b) = (λ e. b, λ e. absurd (omega arith))
 
@@ -166,6 +180,7 @@ module _ (G : Setting) (t x : List ℕ) where
   row-of (refused r) = reading-row (refused-in-table r)
   row-of (list-length p d) = list-length-row
   row-of (list-number {k} p e l h m) = list-number-row k l
+  row-of (zero-vector {τ} p e a l h z) = zero-vector-row τ l
   row-of (first-unbalanced {τ} {i} c) = caught-row τ i (c .vector-within) (c .row-within)
   row-of (all-balanced b) = accepted-row
 

@@ -79,12 +79,16 @@ fn the_true_ticket() {
     assert_eq!(ticket.claims.times(&x), [93, 6]);
     // mn + 2ℓn + ℓm = 4 + 8 + 4.
     assert_eq!(check(&BIAS_TICKET), answer(0, 0, 0, 16));
-    for list in [[0, 0], [1, 0], [0, 1], [P32 - 1, 7], [P32 - 1, P32 - 1]] {
+    for list in [[1, 0], [0, 1], [P32 - 1, 7], [P32 - 1, P32 - 1]] {
         assert_eq!(
             bias_challenge_check(&K_WITH_BIAS, &BIAS_TICKET, &list),
             answer(0, 0, 0, 16)
         );
     }
+    assert_eq!(
+        bias_challenge_check(&K_WITH_BIAS, &BIAS_TICKET, &[0, 0]),
+        refused(21, 0)
+    );
 }
 
 #[test]
@@ -405,7 +409,12 @@ fn the_largest_ticket() {
     assert_eq!(ticket.len(), 57_344);
     assert_eq!(bias_challenge_check(&setting, &ticket, &list), answer(0, 0, 0, 49_152));
     parts.bias[1023] = 31;
+    // Column 31 is 0 in all vectors but the last; column 0 is not, so that none
+    // of them is one of zeros.
     let mut late = [0; 256];
+    for t in 0..7 {
+        late[32 * t] = 1;
+    }
     late[255] = 1;
     let ticket = parts.ticket(&setting);
     assert_eq!(
@@ -440,7 +449,8 @@ fn a_bias_of_zeros_adds_only_products() {
 }
 
 /// Row i is caught exactly when the sum over j of (αq + r - S - c)·X(j) is not 0
-/// modulo p, so the exact sums give every answer a second way.
+/// modulo p, so the exact sums give every answer a second way, but for lists
+/// with a vector of zeros, which are refused.
 #[test]
 fn the_exact_sums_give_the_same_answers() {
     let setting = BiasSetting {
@@ -459,6 +469,7 @@ fn the_exact_sums_give_the_same_answers() {
             let ticket = parts.ticket(&setting);
             for pick in 0..4_usize.pow(4) {
                 let list = [1, 4, 16, 64].map(|unit| numbers[pick / unit % 4]);
+                let of_zeros = list.chunks(2).position(|x| x == [0, 0]);
                 let second_way = (0..4)
                     .map(|step| (step / 2, step % 2))
                     .find(|&(t, i)| {
@@ -470,7 +481,8 @@ fn the_exact_sums_give_the_same_answers() {
                         let products = t * 16 + 4 + (i + 1) * 6;
                         answer(12, t as u32, i as u32, products as u32)
                     });
-                assert_eq!(bias_challenge_check(&setting, &ticket, &list), second_way);
+                let expected = of_zeros.map_or(second_way, |t| refused(21, t as u32));
+                assert_eq!(bias_challenge_check(&setting, &ticket, &list), expected);
             }
         }
     }

@@ -78,12 +78,16 @@ fn the_true_ticket() {
     assert_eq!(ticket.a.times(&ticket.b.times(&x)), [51, 19]);
     assert_eq!(ticket.claims.times(&x), [51, 19]);
     assert_eq!(check(&ROUNDED_TICKET), answer(0, 0, 0, 12));
-    for list in [[0, 0], [1, 0], [0, 1], [P32 - 1, 7], [P32 - 1, P32 - 1]] {
+    for list in [[1, 0], [0, 1], [P32 - 1, 7], [P32 - 1, P32 - 1]] {
         assert_eq!(
             challenge_check(&K_WITH_ROUNDING, &ROUNDED_TICKET, &list),
             answer(0, 0, 0, 12)
         );
     }
+    assert_eq!(
+        challenge_check(&K_WITH_ROUNDING, &ROUNDED_TICKET, &[0, 0]),
+        refused(21, 0)
+    );
 }
 
 #[test]
@@ -390,8 +394,9 @@ fn the_greatest_sums_with_a_bias_beside_o() {
 }
 
 /// Row i is caught exactly when the sum over j of (αq + r - o - S)·X(j) is not 0
-/// modulo p, so the exact sums give every answer a second way. With a bias of 0
-/// the answers are the same, but for n more products in each row.
+/// modulo p, so the exact sums give every answer a second way, but for lists
+/// with a vector of zeros, which are refused. With a bias of 0 the answers are
+/// the same, but for n more products in each row.
 #[test]
 fn the_exact_sums_give_the_same_answers() {
     let numbers = [0, 1, 2, P32 - 1];
@@ -418,18 +423,20 @@ fn the_exact_sums_give_the_same_answers() {
             .ticket(&with_bias);
             for pick in 0..4_usize.pow(4) {
                 let list = [1, 4, 16, 64].map(|unit| numbers[pick / unit % 4]);
+                let of_zeros = list.chunks(2).position(|x| x == [0, 0]);
                 let unequal = (0..4).map(|step| (step / 2, step % 2)).find(|&(t, i)| {
                     let of_column = |j: usize| differences[2 * i + j] * i128::from(list[2 * t + j]);
                     (of_column(0) + of_column(1)) % P != 0
                 });
-                let second_way = |of_vector, of_row| match unequal {
-                    Some((t, i)) => answer(
+                let second_way = |of_vector, of_row| match (of_zeros, unequal) {
+                    (Some(t), _) => refused(21, t as u32),
+                    (None, Some((t, i))) => answer(
                         12,
                         t as u32,
                         i as u32,
                         t as u32 * of_vector + 4 + (i as u32 + 1) * of_row,
                     ),
-                    None => answer(0, 0, 0, 2 * of_vector),
+                    (None, None) => answer(0, 0, 0, 2 * of_vector),
                 };
                 assert_eq!(challenge_check(&setting, &ticket, &list), second_way(12, 4));
                 assert_eq!(bias_challenge_check(&with_bias, &bias_ticket, &list), second_way(16, 6));

@@ -233,7 +233,8 @@ fn the_order_of_the_tests() {
     assert_eq!(of_bytes(&SETTING_OF_K, &[], &list), "4 0 0 0\n");
     assert_eq!(of_bytes(&SETTING_OF_K, &with_value(15, 10), &list), "9 15 0 0\n");
     assert_eq!(of_bytes(&SETTING_OF_K, &ticket_of_d(), &list), "10 0 0 0\n");
-    assert_eq!(prints(&K, &ticket_of_d(), &[P32, 5]), "11 0 0 0\n");
+    assert_eq!(prints(&K, &ticket_of_d(), &[P32, 0]), "11 0 0 0\n");
+    assert_eq!(prints(&K, &ticket_of_d(), &[0, 0]), "21 0 0 0\n");
     assert_eq!(prints(&K, &ticket_of_d(), &[1, 5]), "12 0 0 8\n");
 }
 
@@ -297,6 +298,44 @@ fn number_19() {
     }
     for rounding in [10, 11, 256, 65_536, P32, u32::MAX] {
         assert_eq!(prints_for_setting(Setting { rounding, ..K }), "19 0 0 0\n");
+    }
+}
+
+#[test]
+fn number_21() {
+    // A true and a false ticket.
+    for ticket in [ticket_of_c(), ticket_of_d()] {
+        assert_eq!(of_bytes(&SETTING_OF_K, &ticket, &[0; 8]), "21 0 0 0\n");
+        assert_eq!(of_bytes(&SETTING_OF_K, &ticket, &[0; 7]), "10 0 0 0\n");
+        assert_eq!(of_bytes(&SETTING_OF_K, &ticket, &[0; 12]), "10 0 0 0\n");
+        let of = |vectors: &[[u32; 2]]| {
+            let setting = Setting {
+                vectors: vectors.len() as u32,
+                ..K
+            };
+            prints(&setting, &ticket, &vectors.concat())
+        };
+        assert_eq!(of(&[[0, 0], [1, 5]]), "21 0 0 0\n");
+        assert_eq!(of(&[[1, 5], [0, 0]]), "21 1 0 0\n");
+        assert_eq!(of(&[[1, 5], [0, 0], [0, 0]]), "21 1 0 0\n");
+        assert_eq!(of(&[[0, 0], [1, P32]]), "11 3 0 0\n");
+        assert_eq!(of(&[[0, 5], [0, P32 - 1]]), "0 0 0 24\n");
+        let mut last = [[1, 5]; 8];
+        last[7] = [0, 0];
+        assert_eq!(of(&last), "21 7 0 0\n");
+    }
+    // One bit in any byte, and it is a challenge. 2^31 is beyond p.
+    for place in 0..8 {
+        for bit in 0..8 {
+            let mut challenge = [0; 8];
+            challenge[place] = 1 << bit;
+            let expected = match (place, bit) {
+                (3, 7) => "11 0 0 0\n",
+                (7, 7) => "11 1 0 0\n",
+                _ => "0 0 0 12\n",
+            };
+            assert_eq!(of_bytes(&SETTING_OF_K, &ticket_of_c(), &challenge), expected);
+        }
     }
 }
 

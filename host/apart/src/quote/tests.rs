@@ -556,7 +556,7 @@ fn what_is_quoted_is_reported_later() {
         } = setting;
         let a = drawn.entries(l * m, setting.bound);
         let b = drawn.entries(m * n, setting.bound);
-        let list: Vec<u32> = (0..s * n).map(|_| drawn.number(0, 2_147_483_646)).collect();
+        let list: Vec<u32> = (0..s * n).map(|_| drawn.number(1, 2_147_483_646)).collect();
 
         let quote = quote_ticket(&setting);
         if quote.number == 0 {

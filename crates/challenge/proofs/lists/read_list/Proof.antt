@@ -10,10 +10,10 @@ use Rattle.challenge.proofs.lists.read_list.Statement.{statement}
 use Rattle.challenge.proofs.lists.read_list.Tie as tie
 
 abbrev Inv-loop : tie.InvT-loop
-Inv-loop list count k₀ k = (k ≤ count) × ((i : ℕ) → i < k → getD list i 0 < modulus)
+Inv-loop setting list count k₀ k = (k ≤ count) × ((i : ℕ) → i < k → getD list i 0 < modulus)
 
 abbrev μ-loop : tie.MeasureT-loop
-μ-loop list count k₀ k = count - k
+μ-loop setting list count k₀ k = count - k
 
 returns-2 : tie.Need-returns-2 Inv-loop μ-loop
 returns-2 c =
@@ -31,4 +31,5 @@ read-list-spec =
     tie.close
     (tie.spec Inv-loop μ-loop (λ c. omega arith) (λ c. omega arith) (λ c. search other-length)
     (λ c. (omega arith, λ i l. omega arith)) (λ c κs. search needs) (λ c. omega arith) (λ c. omega arith) (λ c. omega arith)
-    returns-2 (λ c. omega arith) (λ c. omega arith) loop-again (λ c. search (all-least, c .before .loop .inv .1)))
+    returns-2 (λ c. omega arith) (λ c. omega arith) loop-again (λ c κs. search needs)
+    (λ c. search (all-least, c .before .before .loop .inv .1)))
