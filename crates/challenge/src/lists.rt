@@ -1,17 +1,20 @@
 // The challenge list: tests 10, 11 and 21.
 ghost use mathlib.Core.Path.{_≡_};
-ghost use Prim.Native.Nat.{_+_, _*_, _≤_};
+ghost use Prim.Native.Nat.{_+_, _*_, _^_, _≤_, _<_};
 ghost use lib.Dec.{eqb};
 ghost use lib.ListN.{length, getD};
 ghost use Rattle.algebra.specs.Laws.Fills.{lineAt};
 ghost use Rattle.ticket.specs.Rules.{first, firstRefusal};
+ghost use Rattle.ticket.specs.Laws.All.{all};
 ghost use Rattle.ticket.specs.Laws.Limits.{Counts};
-ghost use Rattle.challenge.specs.Rules.{vectorNumber, listReading};
+ghost use Rattle.challenge.specs.Rules.{listNumber, vectorNumber, listReading};
+ghost use Rattle.challenge.specs.Laws.Lists.{nonzeroResidue};
 use residue::Residue;
 use ticket::Answer;
 use ticket::Setting;
 
-// The answer of the tests 10, 11 and 21; its number is 0 where the list is well formed.
+// The answer of the tests 10, 11 and 21; its number is 0 where the list is well formed. Numbers from 1 to p - 1 pass 11 and 21, and hardly
+// any list has others, so these two are made one after the other only where there are.
 pub(crate) fn read_list(setting: Setting, list: &[u32]) -> Answer
     requires { ⌜ Counts setting ⌝ }
     ensures { λ r. ⌜ r ≡ listReading setting (now (list .entry)) ⌝ }
@@ -25,8 +28,38 @@ pub(crate) fn read_list(setting: Setting, list: &[u32]) -> Answer
             products: 0,
         };
     }
+    if nonzero_residues(list) {
+        return Answer::PASSED;
+    }
+    let numbers = read_numbers(list);
+    if numbers.number != 0 {
+        return numbers;
+    }
+    read_vectors(setting, list)
+}
+
+// Whether every number is from 1 to p - 1.
+fn nonzero_residues(list: &[u32]) -> bool
+    ensures { λ r. ⌜ r ≡ all (length (now (list .entry))) (nonzeroResidue (now (list .entry))) ⌝ }
+{
+    let most = Residue::modulus() - 1;
+    let mut all = true;
+    let mut k = 0;
+    while k < list.len() {
+        let number = list[k];
+        all = all & ((1 <= number) & (number <= most));
+        k += 1;
+    }
+    all
+}
+
+// The answer of test 11: refused at the first number that is not a least residue.
+fn read_numbers(list: &[u32]) -> Answer
+    requires { ⌜ length (now list) < 2 ^ 32 ⌝ }
+    ensures { λ r. ⌜ r ≡ firstRefusal 0 (length (now (list .entry))) (listNumber (now (list .entry))) ⌝ }
+{
     let mut k: u32 = 0;
-    while k < count {
+    while (k as usize) < list.len() {
         if Residue::modulus() <= list[k as usize] {
             return Answer {
                 number: 11,
@@ -37,7 +70,7 @@ pub(crate) fn read_list(setting: Setting, list: &[u32]) -> Answer
         }
         k += 1;
     }
-    read_vectors(setting, list)
+    Answer::PASSED
 }
 
 // The answer of test 21: refused at the first vector of zeros.

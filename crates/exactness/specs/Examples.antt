@@ -356,9 +356,10 @@ examples-hold : map by-rules examples ≡ examples
 unfolding modulus leastResidue signedEntry sumℤ matrixProduct floorDivision first scan after firstFailed sizesWithin scaleAndBoundWithin
     numbersWithin fitsWidth limitTests settingTests isEntry shiftedQuotient parts part count start records ticketLength holder valueAt
     formed partTests recordTests firstRefusal recordsReading reading valueIn entryA entryB quotient remainder claim exactSum biasedSum
-    hasBias biasBound biasColumns biasWithin roundingWithin entryBias listNumber firstNonzero vectorNumber listReading productB claimSide operandSide balanced
-    firstRow verdict challengeCheck same holds fullVerdict fullCheck joined beyondNumber operandsReading writing quotientOf remainderOf
-    integersOf integerIn recordOf ticketRecord ticketOf minus recordsFrom ticket numbers setting biased rounded both several under claiming
-    biasedBy biasOf biasCase falseBias trueRemainders trueCase changed roundedBy roundedBias unrounded withSeveral severalBiased oneColumn trueTicket biasTicket roundedTicket
-    smallestWidth quoteTests quoteOf figured examples each by-rules
+    hasBias biasBound biasColumns biasWithin roundingWithin entryBias listNumber firstNonzero vectorNumber listReading productB
+    claimSide operandSide balanced firstRow verdict challengeCheck same holds fullVerdict fullCheck joined beyondNumber operandsReading
+    writing quotientOf remainderOf integersOf integerIn recordOf ticketRecord ticketOf minus recordsFrom ticket numbers setting biased
+    rounded both several under claiming biasedBy biasOf biasCase falseBias trueRemainders trueCase changed roundedBy roundedBias
+    unrounded withSeveral severalBiased oneColumn trueTicket biasTicket roundedTicket smallestWidth quoteTests quoteOf figured examples
+    each by-rules
 examples-hold = refl

@@ -78,7 +78,7 @@ examples-hold : map by-rules examples ≡ examples
 unfolding modulus leastResidue signedEntry sumℤ first scan after firstFailed sizesWithin scaleAndBoundWithin numbersWithin fitsWidth
     limitTests settingTests isEntry shiftedQuotient parts part count start records ticketLength holder valueAt formed partTests
     recordTests firstRefusal recordsReading reading valueIn entryA entryB quotient remainder claim hasBias biasBound biasColumns
-    biasWithin roundingWithin entryBias listNumber firstNonzero vectorNumber listReading productB claimSide operandSide balanced firstRow verdict challengeCheck
-    wordAt settingOf numbersOf fileCheck digitsOf decimal field lineOf rounded setting trueTicket roundedTicket challenge examples
-    by-rules
+    biasWithin roundingWithin entryBias listNumber firstNonzero vectorNumber listReading productB claimSide operandSide balanced
+    firstRow verdict challengeCheck wordAt settingOf numbersOf fileCheck digitsOf decimal field lineOf rounded setting trueTicket
+    roundedTicket challenge examples by-rules
 examples-hold = refl

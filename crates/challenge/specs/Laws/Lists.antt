@@ -7,31 +7,38 @@
 --   vector-zero           where it is, the test gives 21
 --   vector-refused        where it does not pass, it is
 --   line-zero, line-other   both by the first number that is not 0 of the line in which the vector stands
+--   numbers-refused, numbers-passed   the answer of test 11, by the first number that is not a least residue
+--   vectors-refused       the answer of test 21, by the first vector that does not pass
+--   nonzeroResidue x k    number k is from 1 to p - 1
 --   Entries G x           x is a list of s · n least residues, and no vector of it is of zeros
 --   well-formed-is        a list is well formed exactly when it is that
 --   other-length          a list of another length is refused by 10
+--   list-numbers, list-vectors   a list of the right length by the answers of the tests 11 and 21
 --   first-large           the first number that is not a least residue is refused by 11
---   all-least             where the length is right and all numbers are least residues, the vectors are tested
---   first-refused         the first of them that does not pass is refused by 21
---   first-zero            so is the first vector of zeros, once all numbers are least residues
-use Prim.Native.Nat.{ℕ, _+_, _*_, _≤_, _<_}
+--   first-zero            where there is none, the first vector of zeros is refused by 21
+--   all-nonzero           a list of numbers from 1 to p - 1 passes
+use Prim.Native.Nat.{ℕ, _+_, _-_, _*_, _≤_, _<_}
 use native.Mathlib.Decide.{ℕ-discrete, decLe}
 use native.Mathlib.Omega.{arith}
-use mathlib.Core.Path.{_≡_, sym, ap, _∙_}
-use mathlib.Core.Bool.{true}
+use mathlib.Core.Path.{_≡_, refl, sym, ap, _∙_}
+use mathlib.Core.Bool.{Bool, true}
 use mathlib.Core.Logic.{_↔_}
 use mathlib.Core.List.{List}
 use borrow.Author.Tests.{eq-eqb, ne-eqb, eqb-true, lt-ltb, le-ltb}
+use lib.Arith.{digits-lt}
 use lib.Dec.{eqb}
 use lib.ListN.{length, getD}
 use Rattle.residue.specs.Rules.{modulus}
+use Rattle.residue.specs.Laws.Modulus.{modulus-positive}
 use Rattle.algebra.specs.Laws.Fills.{lineAt, part-of, part-long}
 use Rattle.algebra.specs.Laws.Positions.{row-inside}
 use Rattle.ticket.specs.declared.setting.Setting.{Setting}
 use Rattle.ticket.specs.declared.Answer.{Answer}
-use Rattle.ticket.specs.Rules.{first, after, refusal, firstRefusal}
+use Rattle.ticket.specs.Rules.{first, after, refusal, within, firstRefusal}
+use Rattle.ticket.specs.Laws.All.{all, all-at}
 use Rattle.ticket.specs.Laws.Answers.{unless-zero, after-zero, scan-zero, first-past}
 use Rattle.ticket.specs.Laws.First.{first-within, first-cong}
+use Rattle.ticket.specs.Laws.Limits.{within-both}
 use Rattle.ticket.specs.Laws.Scans.{refusal-none, refusal-is, after-passed, after-refused}
 use Rattle.challenge.specs.Rules.{challengeAt, WellFormed, listNumber, firstNonzero, vectorNumber, listReading}
 
@@ -97,9 +104,25 @@ module _ (G : Setting) (x : List ℕ) (τ : ℕ) where
     line-other d = vector-other .1 (λ z. d (by-line ∙ none-first .1 z))
 
 -- the first of n numbers that is not 0 makes the answer
-first-number : (n k c : ℕ) (f : ℕ → ℕ) → k < n → ((i : ℕ) → i < k → f i ≡ 0) → f k ≡ c → (c ≡ 0 → ⊥) → refusal c k ≡ firstRefusal 0 n f
-first-number n k c f l before e other =
+first-number : {n k c : ℕ} (f : ℕ → ℕ) → k < n → ((i : ℕ) → i < k → f i ≡ 0) → f k ≡ c → (c ≡ 0 → ⊥) → refusal c k ≡ firstRefusal 0 n f
+first-number {n} {k} {c} f l before e other =
     sym (refusal-is 0 n k f l before (λ z. other (sym e ∙ z)) ∙ rw e (ap (refusal c) (omega arith)))
+
+module _ (x : List ℕ) (n : ℕ) where
+  pub numbers-refused : {k : ℕ} → k < n → ((i : ℕ) → i < k → getD x i 0 < modulus) → modulus ≤ getD x k 0
+      → refusal 11 k ≡ firstRefusal 0 n (listNumber x)
+  numbers-refused {k} l before h =
+      first-number (listNumber x) l (λ i m. number-least x i .1 (before i m)) (number-large x k h) (λ z. omega arith)
+
+  pub numbers-passed : ((i : ℕ) → i < n → getD x i 0 < modulus) → refusal 0 0 ≡ firstRefusal 0 n (listNumber x)
+  numbers-passed each = sym (refusal-none 0 n (listNumber x) (λ i l. number-least x i .1 (each i l)))
+
+pub vectors-refused : (G : Setting) (x : List ℕ) {τ : ℕ} → τ < G .vectors → ((σ : ℕ) → σ < τ → vectorNumber G x σ ≡ 0)
+    → vectorNumber G x τ ≡ 21 → refusal 21 τ ≡ firstRefusal 0 (G .vectors) (vectorNumber G x)
+vectors-refused G x l before e = first-number (vectorNumber G x) l before e (λ z. omega arith)
+
+abbrev pub nonzeroResidue : List ℕ → ℕ → Bool
+nonzeroResidue x k = within 1 (modulus - 1) (getD x k 0)
 
 pub record Entries (G : Setting) (x : List ℕ) : Type 0 where
   pub size : length x ≡ G .vectors * G .columns
@@ -142,27 +165,42 @@ module _ (G : Setting) (x : List ℕ) where
   unfolding listReading
   other-length d = rw (ne-eqb (length x) count d)
 
-  pub first-refused : (τ : ℕ) → τ < G .vectors → ((σ : ℕ) → σ < τ → vectorNumber G x σ ≡ 0) → vectorNumber G x τ ≡ 21
-      → refusal 21 τ ≡ firstRefusal 0 (G .vectors) (vectorNumber G x)
-  first-refused τ l before e = first-number (G .vectors) τ 21 (vectorNumber G x) l before e (λ z. omega arith)
-
   module _ (size : length x ≡ count) where
     sized : listReading G x ≡ after numbers vectors
     unfolding listReading
     sized = rw (eq-eqb (length x) count size)
 
+    module _ {a : Answer} (a-is : a ≡ firstRefusal 0 (length x) (listNumber x)) where
+      same : a ≡ numbers
+      same = rw size at a-is
+
+      pub list-numbers : (a .number ≡ 0 → ⊥) → a ≡ listReading G x
+      list-numbers d = same ∙ sym (sized ∙ after-refused numbers vectors (λ e. d (ap (λ b. b .number) same ∙ e)))
+
+      pub list-vectors : a .number ≡ 0 → {b : Answer} → b ≡ firstRefusal 0 (G .vectors) (vectorNumber G x) → b ≡ listReading G x
+      list-vectors z b-is = b-is ∙ sym (sized ∙ after-passed numbers vectors (sym (ap (λ b. b .number) same) ∙ z))
+
     pub first-large : (k : ℕ) → k < count → ((i : ℕ) → i < k → getD x i 0 < modulus) → modulus ≤ getD x k 0
         → refusal 11 k ≡ listReading G x
-    first-large k l before h =
-        let e = first-number count k 11 (listNumber x) l (λ i m. number-least x i .1 (before i m)) (number-large x k h) (λ z. omega arith) in
-        sym (sized ∙ after-refused numbers vectors (λ z. omega (arith, ap (λ a. a .number) e ∙ z)) ∙ sym e)
+    first-large k l before h = list-numbers (numbers-refused x (length x) (omega arith) before h) (λ z. omega arith)
 
-    pub all-least : {k : ℕ} {a : Answer} → ((i : ℕ) → i < k → getD x i 0 < modulus) → count ≤ k
-        → a ≡ firstRefusal 0 (G .vectors) (vectorNumber G x) → a ≡ listReading G x
-    all-least all l a-is =
-        a-is ∙ sym (sized ∙ after-passed numbers vectors (scan-zero 0 count (listNumber x) .1 (λ i m. number-least x i .1 (all i (omega arith)))))
+    module _ (all-least : (k : ℕ) → k < count → getD x k 0 < modulus) where
+      least : refusal 0 0 ≡ firstRefusal 0 (length x) (listNumber x)
+      least = numbers-passed x (length x) (λ k l. all-least k (omega arith))
 
-    pub first-zero : (τ : ℕ) → ((k : ℕ) → k < count → getD x k 0 < modulus) → τ < G .vectors
-        → ((σ : ℕ) → σ < τ → ZeroVector G x σ → ⊥) → ZeroVector G x τ → refusal 21 τ ≡ listReading G x
-    first-zero τ all l before z =
-        all-least {k = count} all (omega arith) (first-refused τ l (λ σ m. vector-other G x σ .1 (before σ m)) (vector-zero G x τ z))
+      pub first-zero : (τ : ℕ) → τ < G .vectors → ((σ : ℕ) → σ < τ → ZeroVector G x σ → ⊥) → ZeroVector G x τ
+          → refusal 21 τ ≡ listReading G x
+      first-zero τ l before z =
+          list-vectors least refl (vectors-refused G x l (λ σ m. vector-other G x σ .1 (before σ m)) (vector-zero G x τ z))
+
+      none-zero : ((τ : ℕ) → τ < G .vectors → ZeroVector G x τ → ⊥) → refusal 0 0 ≡ listReading G x
+      none-zero other =
+          list-vectors least refl (sym (refusal-none 0 (G .vectors) (vectorNumber G x) (λ τ l. vector-other G x τ .1 (other τ l))))
+
+    pub all-nonzero : 1 ≤ G .columns → all (length x) (nonzeroResidue x) ≡ true → refusal 0 0 ≡ listReading G x
+    all-nonzero some each =
+        none-zero (λ k l. omega (arith, modulus-positive, nonzero k l))
+        (λ τ l z. omega (arith, z 0 some, nonzero (τ * G .columns + 0) (digits-lt l some)))
+      where
+        nonzero : (k : ℕ) → k < count → (1 ≤ getD x k 0) × (getD x k 0 ≤ modulus - 1)
+        nonzero k l = within-both (all-at (length x) (nonzeroResidue x) each k (omega arith))

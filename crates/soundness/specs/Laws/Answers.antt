@@ -95,7 +95,7 @@ module _ (G : Setting) (t x : List ℕ) where
   answer-of (refused r) = sym (check-ticket G t x (sym (refused-reading G t r)) (λ z. omega (arith, refused-number G t r)))
   answer-of (list-length p d) = sym (check-list G t x refl p (other-length G x d) (λ z. omega arith))
   answer-of (list-number p e l h m) = sym (check-list G t x refl p (first-large G x e _ l h m) (λ z. omega arith))
-  answer-of (zero-vector {τ} p e a l h z) = sym (check-list G t x refl p (first-zero G x e τ a l h z) (λ z. omega arith))
+  answer-of (zero-vector {τ} p e a l h z) = sym (check-list G t x refl p (first-zero G x e a τ l h z) (λ z. omega arith))
   answer-of (first-unbalanced c) = sym (check-rows G t x refl (c .ticket) refl (c .list) (sym (verdict-caught c)))
   answer-of (all-balanced b) = sym (check-rows G t x refl (b .ticket) refl (b .list) (sym (verdict-accepted (b .balance))))
 

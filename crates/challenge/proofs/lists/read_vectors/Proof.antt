@@ -7,7 +7,7 @@ use borrow.Author.Needs.{needs}
 use Rattle.algebra.specs.Laws.Positions.{row-inside}
 use Rattle.ticket.specs.Laws.Scans.{refusal-none}
 use Rattle.challenge.specs.Rules.{vectorNumber}
-use Rattle.challenge.specs.Laws.Lists.{line-zero, line-other, first-refused}
+use Rattle.challenge.specs.Laws.Lists.{line-zero, line-other, vectors-refused}
 use Rattle.challenge.proofs.lists.read_vectors.Statement.{statement}
 use Rattle.challenge.proofs.lists.read_vectors.Tie as tie
 
@@ -23,7 +23,7 @@ line-requires c κs =
     omega (arith, start .pre, row-inside (start .args .setting .columns) (c .if1 .taken))
 
 returns : tie.Need-returns Inv-loop μ-loop
-returns c = first-refused _ _ _ (search needs) (c .before .before .before .before .before .loop .inv .1) (search line-zero)
+returns c = vectors-refused _ _ (search needs) (c .before .before .before .before .before .loop .inv .1) (search line-zero)
 
 loop-again : tie.Need-loop-again Inv-loop μ-loop
 loop-again c = (omega arith, below-more _ _ (c .before .before .before .before .before .loop .inv .1) (search line-other))
