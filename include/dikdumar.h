@@ -32,10 +32,10 @@
 
 /* The version of this interface, for a program to test. */
 #ifndef DIKDUMAR_VERSION
-#define DIKDUMAR_VERSION "2.1.1"
+#define DIKDUMAR_VERSION "2.2.0"
 #define DIKDUMAR_VERSION_MAJOR 2
-#define DIKDUMAR_VERSION_MINOR 1
-#define DIKDUMAR_VERSION_PATCH 1
+#define DIKDUMAR_VERSION_MINOR 2
+#define DIKDUMAR_VERSION_PATCH 0
 #endif
 
 #ifdef __cplusplus
@@ -97,7 +97,7 @@ typedef struct {
  * is accepted, or written, where number is 0 and only there.
  */
 typedef struct {
-    uint32_t number;   /* what was found, 0 to 19 */
+    uint32_t number;   /* what was found, 0 to 21 */
     uint32_t place;    /* where, by the number; the length of a written ticket */
     uint32_t row;      /* the row that was caught, from 0, else 0 */
     uint32_t products; /* the products counted, else 0 */
@@ -116,11 +116,12 @@ typedef struct {
  *
  * The claim at row i, column j is true when a*q + r - o is the exact sum of
  * A(i,k)*B(k,j) over all k. The list holds s vectors of n least residues, one
- * vector after another. For each vector X, B times X is worked out once, and
- * then for each row both sides are compared modulo p: the a*q + r - o of the row
- * times X, and the row of A times that. A true ticket is accepted with every
- * such list. A false one passes only where its errors cancel, so the list is to
- * be drawn at random once the ticket is fixed.
+ * vector after another, none of them all zeros. For each vector X, B times X is
+ * worked out once, and then for each row both sides are compared modulo p: the
+ * a*q + r - o of the row times X, and the row of A times that. A true ticket is
+ * accepted with every such list. A false one passes only where its errors
+ * cancel, so the list is to be drawn at random once the ticket is fixed; with
+ * one column it never passes.
  *
  *     number  meaning                                    place
  *        0    accepted                                   0
@@ -137,10 +138,11 @@ typedef struct {
  *       11    list number of p or more                   index in the list
  *       12    caught: the two sides of a row differ      vector t
  *       19    o not below a                              0
+ *       21    a vector of zeros                          vector t
  *
  * The first test that fails decides: 1, 2, 19, 3 and 4, then record after record
- * each by 5, 6 and its own range, then 10, 11 and 12. Records are counted from 0
- * over the whole ticket. Row and products are 0 except in these answers:
+ * each by 5, 6 and its own range, then 10, 11, 21 and 12. Records are counted
+ * from 0 over the whole ticket. Row and products are 0 except in these answers:
  *
  *     number  row    products
  *        0    0      s*(m*n + l*n + l*m)
@@ -191,7 +193,8 @@ dikdumar_answer dikdumar_full_check(dikdumar_setting setting,
  * the records described above: A, B, the quotients and the remainders. Each
  * quotient is the floor of its sum plus o over the scale (rounded down, also
  * below zero), each remainder what is left. The full check accepts the ticket,
- * and the challenge check does with every list of s*n least residues.
+ * and the challenge check does with every list of s*n least residues of which no
+ * vector is all zeros.
  *
  *     number  meaning                                    place
  *        0    written                                    8*(l*m + m*n + 2*l*n)
@@ -244,12 +247,12 @@ typedef struct {
  *
  * The claim at row i, column j is true when a*q + r - o is the exact sum of
  * A(i,k)*B(k,j) over all k, plus c(i,j). The list holds s vectors of n least
- * residues, one vector after another. For each vector X, B times X is worked out
- * once, and then for each row both sides are compared modulo p: the a*q + r - o
- * of the row times X, and the row of A times that plus the row of the bias times
- * X. A true ticket is accepted with every such list. A false one passes only
- * where its errors cancel, so the list is to be drawn at random once the ticket
- * is fixed.
+ * residues, one vector after another, none of them all zeros. For each vector X,
+ * B times X is worked out once, and then for each row both sides are compared
+ * modulo p: the a*q + r - o of the row times X, and the row of A times that plus
+ * the row of the bias times X. A true ticket is accepted with every such list. A
+ * false one passes only where its errors cancel, so the list is to be drawn at
+ * random once the ticket is fixed; with one column it never passes.
  *
  *     number  meaning                                    place
  *        0    accepted                                   0
@@ -268,9 +271,10 @@ typedef struct {
  *       17    W above 2^30                               0
  *       18    bias entry below -W or above W             record
  *       19    o not below a                              0
+ *       21    a vector of zeros                          vector t
  *
  * The first test that fails decides: 1, 2, 17, 19, 3 and 4, then record after
- * record each by 5, 6 and its own range (7, 18, 8 or 9), then 10, 11 and 12.
+ * record each by 5, 6 and its own range (7, 18, 8 or 9), then 10, 11, 21 and 12.
  * Records are counted from 0 over the whole ticket. Row and products are 0
  * except in these answers:
  *
@@ -328,7 +332,7 @@ dikdumar_answer dikdumar_bias_full_check(dikdumar_bias_setting setting,
  * Each quotient is the floor of its sum plus bias plus o over the scale (rounded
  * down, also below zero), each remainder what is left. The full check of bias
  * tickets accepts the ticket, and their challenge check does with every list of
- * s*n least residues.
+ * s*n least residues of which no vector is all zeros.
  *
  *     number  meaning                                                    place
  *        0    written                                                    8*(l*m + m*n + 3*l*n)

@@ -16,10 +16,10 @@
 
 /* The version of this interface, for a program to test. */
 #ifndef DIKDUMAR_VERSION
-#define DIKDUMAR_VERSION "2.1.1"
+#define DIKDUMAR_VERSION "2.2.0"
 #define DIKDUMAR_VERSION_MAJOR 2
-#define DIKDUMAR_VERSION_MINOR 1
-#define DIKDUMAR_VERSION_PATCH 1
+#define DIKDUMAR_VERSION_MINOR 2
+#define DIKDUMAR_VERSION_PATCH 0
 #endif
 
 #ifdef __cplusplus

@@ -69,6 +69,10 @@ static void act(dikdumar_answer answer)
     case 9:
         printf("  hold the pallet and ask for the ticket again: record %lu is refused\n", place);
         break;
+    case 21:
+        /* Never only a new list: a source that gives zeros gives them again. */
+        printf("  hold the pallet and stop drawing: the source of the numbers has failed\n");
+        break;
     default:
         /* The setting (1, 2, 19, 3) or the list (10, 11), which are this program's own. */
         printf("  hold the pallet and stop the line: the controller is wrong\n");
@@ -92,6 +96,7 @@ int main(void)
 {
     /* In use, a list is drawn at random for each ticket once that is fixed. */
     const uint32_t list[COLUMNS] = {1, 5};
+    const uint32_t zeros[COLUMNS] = {0, 0};
     uint8_t ticket[TICKET];
 
     receive("a true ticket", RECEIVED, TICKET, list, COLUMNS);
@@ -108,5 +113,7 @@ int main(void)
     receive("the last record lost", RECEIVED, TICKET - RECORD, list, COLUMNS);
 
     receive("a list with a number too few", RECEIVED, TICKET, list, COLUMNS - 1);
+
+    receive("a list of zeros", RECEIVED, TICKET, zeros, COLUMNS);
     return 0;
 }

@@ -54,6 +54,8 @@ fn action(answer: Answer) -> String {
         }
         4 => "hold the pallet and ask for the ticket again: wrong length".to_string(),
         5..=9 => format!("hold the pallet and ask for the ticket again: record {place} is refused"),
+        // Never only a new list: a source that gives zeros gives them again.
+        21 => "hold the pallet and stop drawing: the source of the numbers has failed".to_string(),
         // The setting (1, 2, 19, 3) or the list (10, 11), which are this program's own.
         _ => "hold the pallet and stop the line: the controller is wrong".to_string(),
     }
@@ -89,6 +91,8 @@ fn main() {
     receive("the last record lost", &RECEIVED[..RECEIVED.len() - RECORD], &list);
 
     receive("a list with a number too few", &RECEIVED, &list[..1]);
+
+    receive("a list of zeros", &RECEIVED, &[0, 0]);
 }
 
 #[cfg(test)]
@@ -98,7 +102,7 @@ mod tests {
     /// No number but 0 lets a pallet pass, not even one that is not in the table.
     #[test]
     fn only_accepted_passes() {
-        for number in (0..=20).chain([u32::MAX]) {
+        for number in (0..=21).chain([u32::MAX]) {
             let answer = Answer {
                 number,
                 place: 0,

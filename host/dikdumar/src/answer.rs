@@ -35,6 +35,7 @@
 /// | 18 | bias entry below -W or above W | record | 0 | 0 | bias challenge check, bias full check |
 /// | 18 | number of the bias below -W or above W | index after A and B | 0 | 0 | bias writer |
 /// | 19 | o not below α | 0 | 0 | 0 | challenge check, full check, writer, bias challenge check, bias full check, bias writer |
+/// | 21 | a vector of zeros | vector t | 0 | 0 | challenge check, bias challenge check |
 #[repr(C)]
 #[derive(Clone, Copy, Debug, PartialEq, Eq)]
 pub struct Answer {

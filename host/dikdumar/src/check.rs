@@ -12,14 +12,15 @@
 use crate::{library, Answer, BiasSetting, Setting};
 
 /// Checks the claims of a ticket against a list of s vectors, each of n numbers
-/// below p, one vector after another.
+/// below p that are not all 0, one vector after another.
 ///
 /// A true ticket is accepted with every such list. A false one is accepted only
 /// with lists for which its errors cancel, so the numbers are to be drawn at
-/// random once the ticket is fixed.
+/// random once the ticket is fixed; with one column it never is.
 ///
 /// The tests are made in the order 1, 2, 19, 3, 4, then record after record 5, 6
-/// and its own range, then 10, 11 and 12; the first that fails decides the answer.
+/// and its own range, then 10, 11, 21 and 12; the first that fails decides the
+/// answer.
 ///
 /// ```
 /// use dikdumar::{challenge_check, write_ticket, Setting};
@@ -37,6 +38,9 @@ use crate::{library, Answer, BiasSetting, Setting};
 /// assert_eq!(challenge_check(setting, &ticket, &[1_234_567, 89]).numbers(), [9, 3, 0, 0]);
 /// ticket[28] = 4;
 /// assert_eq!(challenge_check(setting, &ticket, &[1_234_567, 89]).numbers(), [12, 0, 0, 3]);
+///
+/// // A vector of zeros, the second of two, is refused.
+/// assert_eq!(challenge_check(setting, &ticket, &[1_234_567, 0]).numbers(), [21, 1, 0, 0]);
 ///
 /// // 10 · 6 + 4 is the claim for 63 with a rounding of 1.
 /// let with_one = Setting { rounding: 1, ..setting };
@@ -75,8 +79,8 @@ pub fn full_check(setting: Setting, ticket: &[u8]) -> Answer {
 ///
 /// The bias, ℓ by n records of kind 5, stands between B and the quotients. The
 /// tests are made in the order 1, 2, 17, 19, 3, 4, then record after record 5, 6
-/// and its own range, for an entry of the bias 18, then 10, 11 and 12; the first
-/// that fails decides the answer.
+/// and its own range, for an entry of the bias 18, then 10, 11, 21 and 12; the
+/// first that fails decides the answer.
 ///
 /// ```
 /// use dikdumar::{bias_challenge_check, write_bias_ticket, BiasSetting};

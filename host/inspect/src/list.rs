@@ -1,6 +1,7 @@
 //! The text of the challenge list.
 
 use std::iter;
+use std::ops::Range;
 
 use dikdumar::Setting;
 
@@ -11,8 +12,8 @@ use crate::words::count;
 const NUMBERS_TO_A_LINE: usize = 8;
 
 /// The numbers of the list, a vector to a line where there are s·n, with a star at
-/// the marked index.
-pub fn text(list: &[u32], setting: Option<Setting>, marked: Option<usize>) -> String {
+/// each marked index.
+pub fn text(list: &[u32], setting: Option<Setting>, marked: Range<usize>) -> String {
     let [vectors, columns] = setting.map_or([0, 0], |setting| [setting.vectors as usize, setting.columns as usize]);
     if !list.is_empty() && list.len() == vectors * columns {
         return lines(list, columns, marked, |line| format!("vector {line}:"));
@@ -28,11 +29,11 @@ pub fn text(list: &[u32], setting: Option<Setting>, marked: Option<usize>) -> St
         })
 }
 
-fn lines(list: &[u32], length: usize, marked: Option<usize>, label: impl Fn(usize) -> String) -> String {
+fn lines(list: &[u32], length: usize, marked: Range<usize>, label: impl Fn(usize) -> String) -> String {
     let mut table = Table::default();
     let cells: Vec<String> = (0..)
         .zip(list)
-        .map(|(index, number)| format!("{number}{}", if marked == Some(index) { '*' } else { ' ' }))
+        .map(|(index, number)| format!("{number}{}", if marked.contains(&index) { '*' } else { ' ' }))
         .collect();
     for (line, cells) in cells.chunks(length).enumerate() {
         table.line(iter::once(label(line)).chain(cells.iter().cloned()));

@@ -127,12 +127,18 @@ fn ticket_heading(file: &Option<Contents>) -> String {
     heading("ticket.rec", file) + &format!("  {}\n", count(records.len(), "whole record"))
 }
 
-/// The list, with a star at the number that the answer names.
+/// The list, with a star at each number that the answer names: one, or those of a
+/// vector.
 fn list_text(file: &Option<Contents>, setting: Option<Setting>, answer: Option<Answer>) -> String {
     let heading = heading("challenge.rec", file);
-    let named = answer.filter(|answer| answer.number == 11);
+    let columns = setting.map_or(0, |setting| setting.columns as usize);
+    let named = match answer.map(|answer| (answer.number, answer.place as usize)) {
+        Some((11, index)) => index..index + 1,
+        Some((21, vector)) => vector * columns..(vector + 1) * columns,
+        _ => 0..0,
+    };
     match inputs::list(bytes(file)) {
-        Some(list) => heading + &list::text(&list, setting, named.map(|answer| answer.place as usize)),
+        Some(list) => heading + &list::text(&list, setting, named),
         None => heading + "  no whole count of numbers, which have 4 bytes each\n",
     }
 }

@@ -59,12 +59,16 @@ fn table(layer: Layer, quote: Quote) -> String {
     text + &format!(
         "  {:<21}  {}\n",
         "a false ticket passes",
-        how_often(layer.setting.vectors)
+        how_often(layer.setting.columns, layer.setting.vectors)
     )
 }
 
-/// At most one list in p^s, by the library's p.
-fn how_often(vectors: u32) -> String {
+/// At most one list in p^s, by the library's p; with one column none, since a
+/// vector that hides an error would be of zeros, and is refused.
+fn how_often(columns: u32, vectors: u32) -> String {
+    if columns == 1 {
+        return "never: with one column no list hides an error".to_string();
+    }
     let p = residue::from_signed(-1) + 1;
     let power = powers::rounded_down(p, vectors);
     let p = thousands(p);
@@ -167,6 +171,15 @@ mod tests {
         ] {
             let text = shown(layer([2, 2, 2, vectors, 10, 8, 0]));
             assert_eq!(figure(&text, "a false ticket passes"), expected);
+        }
+    }
+
+    #[test]
+    fn with_one_column_a_false_ticket_never_passes() {
+        for vectors in 1..=8 {
+            let text = shown(layer([2, 2, 1, vectors, 10, 8, 0]));
+            let never = "never: with one column no list hides an error";
+            assert_eq!(figure(&text, "a false ticket passes"), never);
         }
     }
 

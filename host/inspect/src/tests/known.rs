@@ -426,11 +426,24 @@ fn lists_are_shown() {
             "\n  under this setting a list has 2 numbers\n  from index 0:  1   2   3\n",
         ),
         (&[7; 9], [10, 0, 0, 0], "\n  from index 8:  7\n"),
+        (&[0, 5], [0, 0, 0, 12], "\n  vector 0:  0   5\n"),
+        (&[0, 0], [21, 0, 0, 0], "\n  vector 0:  0*  0*\n"),
     ] {
         let text = shown_under(k(), &true_ticket(k()), list);
         assert_eq!(answer_shown(&text, "challenge check"), Some(answer));
         assert!(text.contains(expected), "{text}");
     }
+}
+
+/// The numbers of the vector that the answer names, and no other zeros.
+#[test]
+fn a_vector_of_zeros_is_marked() {
+    let mut terms = k();
+    terms.setting.vectors = 3;
+    let text = shown_under(terms, &true_ticket(terms), &[0, 2, 0, 0, 0, 0]);
+    assert_eq!(answer_shown(&text, "challenge check"), Some([21, 1, 0, 0]));
+    let expected = "\n  vector 0:  0   2\n  vector 1:  0*  0*\n  vector 2:  0   0\n";
+    assert!(text.contains(expected), "{text}");
 }
 
 #[test]
