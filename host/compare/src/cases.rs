@@ -48,10 +48,10 @@ impl Kind {
     /// The numbers that the call answers with.
     pub fn numbers(self) -> &'static [u32] {
         match self {
-            Kind::Challenge => &[0, 1, 2, 3, 4, 5, 6, 7, 8, 9, 10, 11, 12, 19],
+            Kind::Challenge => &[0, 1, 2, 3, 4, 5, 6, 7, 8, 9, 10, 11, 12, 19, 21],
             Kind::Full => &[0, 1, 2, 3, 4, 5, 6, 7, 8, 9, 16, 19],
             Kind::Writer => &[0, 1, 2, 3, 13, 14, 15, 19],
-            Kind::BiasChallenge => &[0, 1, 2, 3, 4, 5, 6, 7, 8, 9, 10, 11, 12, 17, 18, 19],
+            Kind::BiasChallenge => &[0, 1, 2, 3, 4, 5, 6, 7, 8, 9, 10, 11, 12, 17, 18, 19, 21],
             Kind::BiasFull => &[0, 1, 2, 3, 4, 5, 6, 7, 8, 9, 16, 17, 18, 19],
             Kind::BiasWriter => &[0, 1, 2, 3, 13, 14, 15, 17, 18, 19],
             Kind::Quote => &[0, 1, 2, 19, 20],

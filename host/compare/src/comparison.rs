@@ -9,13 +9,13 @@ use crate::cases::{Call, Case, Family, Kind, Reply, Side, Visitor, GUARD};
 use crate::outcome::{agreed, Report};
 use crate::setting::Form;
 
-/// How often the library answered, and how often with each number from 0 to 20, for
+/// How often the library answered, and how often with each number from 0 to 21, for
 /// each call in the order of `Kind::ALL`. Any other number is a difference, and so
 /// is not counted by itself.
 #[derive(Clone, Debug, Default, PartialEq, Eq)]
 pub struct Numbers {
     cases: [u64; Kind::ALL.len()],
-    numbers: [[u64; 21]; Kind::ALL.len()],
+    numbers: [[u64; 22]; Kind::ALL.len()],
 }
 
 impl Numbers {
@@ -518,21 +518,23 @@ mod tests {
         let mut numbers = Numbers::default();
         numbers.count(Kind::Full, 16);
         numbers.count(Kind::Writer, 0);
-        numbers.count(Kind::Writer, 21);
+        numbers.count(Kind::Writer, 22);
         numbers.count(Kind::Writer, u32::MAX);
         numbers.count(Kind::BiasWriter, 19);
         numbers.count(Kind::BiasQuote, 20);
+        numbers.count(Kind::Challenge, 21);
         let mut twice = numbers.clone();
         twice.add(&numbers);
-        assert_eq!(Kind::ALL.map(|kind| twice.cases(kind)), [0, 2, 6, 0, 0, 2, 0, 2]);
+        assert_eq!(Kind::ALL.map(|kind| twice.cases(kind)), [2, 2, 6, 0, 0, 2, 0, 2]);
         let all = [
             (Kind::Full, 16),
             (Kind::Writer, 0),
             (Kind::BiasWriter, 19),
             (Kind::BiasQuote, 20),
+            (Kind::Challenge, 21),
         ];
         for kind in Kind::ALL {
-            for number in 0..=20 {
+            for number in 0..=21 {
                 let counted = all.contains(&(kind, number));
                 assert_eq!(twice.of(kind, number), if counted { 2 } else { 0 });
             }

@@ -158,7 +158,7 @@ mod tests {
 
     #[test]
     fn every_number_of_the_table_is_given_by_some_call() {
-        for number in 0..=20 {
+        for number in 0..=21 {
             assert!(Kind::ALL.iter().any(|kind| kind.numbers().contains(&number)));
         }
     }
@@ -176,7 +176,7 @@ mod tests {
     fn the_summary() {
         assert_eq!(
             summary(5, &all_but(None), 3),
-            "families 5, challenge check 14, full check 12, writer 8, bias challenge check 16, bias full check 14, \
+            "families 5, challenge check 15, full check 12, writer 8, bias challenge check 17, bias full check 14, \
              bias writer 10, quote 5, bias quote 6, residue calls 7, inputs 3"
         );
     }

@@ -7,8 +7,8 @@ use apart::make::residue;
 use apart::Answer;
 
 use super::craft::{
-    self, falsify_bias, fields, fitting, list_without_zero, set_value, sizes, sizes_up_to, true_parts, zeros, Field, K,
-    K_WITH_BIAS, P,
+    self, falsify_bias, fields, fitting, list_without_zero, set_value, sizes, sizes_up_to, true_parts, unless_zeros,
+    zeros, Field, K, K_WITH_BIAS, P,
 };
 use super::false_tickets::visit_accepted;
 use super::lengths::small_settings;
@@ -254,7 +254,7 @@ fn with_some_bias(generator: &mut Generator, sizes: [u32; 4]) -> Setting {
 
 /// True tickets with one entry of the bias changed, in the first, a middle and the
 /// last column of each row. The lists catch it in the first vector or in the last,
-/// or are 0 there.
+/// or are 0 there. Those that have a vector of zeros by that are refused.
 pub fn false_through_bias(visit: &mut Visitor, _: Form) {
     let mut generator = Generator::new(952);
     let small = (0..4_u32.pow(3)).map(|index| [index % 4 + 1, index / 4 % 4 + 1, index / 16 + 1, index % 3 + 1]);
@@ -305,8 +305,8 @@ fn visit_one_false(
             what,
             setting: *setting,
             ticket: ticket.to_vec(),
+            expected: Some(unless_zeros(setting, &list, expected)),
             list,
-            expected: Some(expected),
         });
     }
     visit.full(what, setting, ticket, Some(untrue(setting, i * columns + j)));

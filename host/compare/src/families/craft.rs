@@ -296,6 +296,21 @@ pub fn list_without_zero(generator: &mut Generator, setting: &Setting) -> Vec<u3
     list
 }
 
+/// The first vector of a list that is of zeros alone.
+pub fn first_of_zeros(setting: &Setting, list: &[u32]) -> Option<usize> {
+    list.chunks(setting.columns as usize)
+        .position(|x| x.iter().max() == Some(&0))
+}
+
+/// The answer to a list of the right length whose numbers are below p: 21 where a
+/// vector is of zeros, and this one where the list is well formed.
+pub fn unless_zeros(setting: &Setting, list: &[u32], answer: Answer) -> Answer {
+    match first_of_zeros(setting, list) {
+        Some(t) => refused(21, t),
+        None => answer,
+    }
+}
+
 /// Puts another claim, or another entry of the bias, within the ranges at row i,
 /// column j. The claim is untrue when the former was true: αq + r takes each value
 /// once.
@@ -370,6 +385,11 @@ pub fn by_sums(setting: &Setting, parts: &Parts, list: &[u32]) -> Answer {
     accepted(setting)
 }
 
+/// The same to a list of the right length whose numbers are below p.
+pub fn by_list(setting: &Setting, parts: &Parts, list: &[u32]) -> Answer {
+    unless_zeros(setting, list, by_sums(setting, parts, list))
+}
+
 /// The full check's answer to a ticket whose entries of A and B are within their
 /// range: its first entry of the bias out of range, then its first quotient, then
 /// its first remainder, then its first claim that is not true.
@@ -398,21 +418,22 @@ pub fn full_by_sums(setting: &Setting, parts: &Parts) -> Answer {
     }
 }
 
-/// Visits both checks of a ticket within the ranges, with a well-formed list.
+/// Visits both checks of a ticket within the ranges, with a list of the right length
+/// whose numbers are below p.
 pub fn visit_claims(visit: &mut Visitor, what: &'static str, setting: &Setting, parts: &Parts, list: &[u32]) {
     let case = claims_case(what, setting, parts, list);
     visit.challenge(&case);
     visit.full(what, setting, &case.ticket, Some(full_by_sums(setting, parts)));
 }
 
-/// The case of a ticket within the ranges and a well-formed list.
+/// The case of a ticket within the ranges and such a list.
 pub fn claims_case(what: &'static str, setting: &Setting, parts: &Parts, list: &[u32]) -> TicketCase {
     TicketCase {
         what,
         setting: *setting,
         ticket: parts.ticket(setting),
         list: list.to_vec(),
-        expected: Some(by_sums(setting, parts, list)),
+        expected: Some(by_list(setting, parts, list)),
     }
 }
 

@@ -1,7 +1,7 @@
 //! Lists of other lengths, and list numbers at and beyond p. The full check takes
 //! no list, so it is asked once for each ticket.
 
-use super::craft::{list, shapes_and_largest, true_parts, P};
+use super::craft::{list, shapes_and_largest, true_parts, unless_zeros, P};
 use crate::cases::{accepted, accepted_in_full, refused, TicketCase, Visitor};
 use crate::generator::Generator;
 use crate::setting::Form;
@@ -22,8 +22,9 @@ pub fn lengths(visit: &mut Visitor, form: Form) {
             for length in (0..=right + 40).chain([2 * right, 1000]) {
                 let expected = match length {
                     _ if length != right => refused(10, 0),
-                    _ if filling < P => accepted(&setting),
-                    _ => refused(11, 0),
+                    _ if filling >= P => refused(11, 0),
+                    _ if filling == 0 => refused(21, 0),
+                    _ => accepted(&setting),
                 };
                 visit.challenge(&TicketCase {
                     what: "a list of one number over and over",
@@ -55,7 +56,7 @@ pub fn numbers(visit: &mut Visitor, form: Form) {
             for number in [0, 1, P - 2, P - 1, P, P + 1, P + 2, u32::MAX - 1, u32::MAX] {
                 case.list[index] = number;
                 case.expected = Some(if number < P {
-                    accepted(&setting)
+                    unless_zeros(&setting, &case.list, accepted(&setting))
                 } else {
                     refused(11, index)
                 });

@@ -51,7 +51,7 @@ fn tickets(visit: &mut Visitor, form: Form, seed: u64, count: usize, sizes: fn(&
 }
 
 /// A ticket within the ranges, one in two of them false in one place or several,
-/// and a list that is well formed and often has zeros.
+/// and a list of the right length whose numbers are below p, often with zeros.
 pub fn within_ranges(generator: &mut Generator, setting: &Setting) -> (Parts, Vec<u32>) {
     let [rows, _, columns, _] = sizes(setting);
     let mut parts = true_parts(generator, setting);

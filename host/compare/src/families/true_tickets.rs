@@ -1,13 +1,14 @@
 //! True tickets, which every well-formed list is accepted with, and which the
 //! full check accepts.
 
-use super::craft::{claims_case, fitting, full_by_sums, list, sizes, true_parts, LARGEST, P};
+use super::craft::{claims_case, fitting, full_by_sums, list, sizes, true_parts, unless_zeros, LARGEST, P};
 use crate::cases::{accepted, accepted_in_full, TicketCase, Visitor};
 use crate::generator::Generator;
 use crate::setting::{Form, Setting};
 
 /// Lists of each kind: random, one number over and over, one number that is not
-/// 0 in each vector.
+/// 0 in each vector. All but that of zeros, and mostly the random one, are well
+/// formed.
 pub fn lists(generator: &mut Generator, setting: &Setting) -> Vec<Vec<u32>> {
     let [_, _, columns, vectors] = sizes(setting);
     let count = vectors * columns;
@@ -25,16 +26,18 @@ pub fn lists(generator: &mut Generator, setting: &Setting) -> Vec<Vec<u32>> {
     lists
 }
 
-/// Every list is accepted with the ticket, and the full check accepts it.
+/// Every well-formed list is accepted with the ticket, and the full check accepts
+/// it.
 fn visit_true(visit: &mut Visitor, generator: &mut Generator, setting: &Setting) {
     let mut case = TicketCase {
         what: "true",
         setting: *setting,
         ticket: true_parts(generator, setting).ticket(setting),
         list: Vec::new(),
-        expected: Some(accepted(setting)),
+        expected: None,
     };
     for list in lists(generator, setting) {
+        case.expected = Some(unless_zeros(setting, &list, accepted(setting)));
         case.list = list;
         visit.challenge(&case);
     }

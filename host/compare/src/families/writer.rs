@@ -120,7 +120,8 @@ pub fn visit_written(
     visit_written_with_lists(visit, generator, what, setting, parts, lists);
 }
 
-/// The same with each of these lists, which are well formed.
+/// The same with each of these lists, which are of the right length and of numbers
+/// below p.
 pub fn visit_written_with_lists(
     visit: &mut Visitor,
     generator: &mut Generator,
@@ -139,9 +140,10 @@ pub fn visit_written_with_lists(
         setting: *setting,
         ticket,
         list: Vec::new(),
-        expected: Some(accepted(setting)),
+        expected: None,
     };
     for list in lists {
+        case.expected = Some(unless_zeros(setting, &list, accepted(setting)));
         case.list = list;
         visit.challenge(&case);
     }

@@ -101,14 +101,20 @@ pub fn examples(visit: &mut Visitor, form: Form) {
 }
 
 /// The ticket of an o under the setting of that o or of another. There every claim is
-/// off by as much, which (1, p - 1) cancels, and (0, 5) does not.
+/// off by as much, which (1, p - 1) cancels, and (0, 5) does not. (0, 0) is refused
+/// under both.
 fn visit_under(visit: &mut Visitor, setting: &Setting, ticket: &[u8], is_right: bool) {
     let (accepted, caught) = match setting.form() {
         Form::Plain => ([0, 0, 0, 12], [12, 0, 0, 8]),
         Form::Bias => ([0, 0, 0, 16], [12, 0, 0, 10]),
     };
-    for (list, cancels) in [([1, 2], false), ([1, P - 1], true), ([0, 5], false), ([0, 0], true)] {
-        let expected = if is_right || cancels { accepted } else { caught };
+    let off = if is_right { accepted } else { caught };
+    for (list, expected) in [
+        ([1, 2], off),
+        ([1, P - 1], accepted),
+        ([0, 5], off),
+        ([0, 0], [21, 0, 0, 0]),
+    ] {
         visit.challenge(&TicketCase {
             what: "the ticket of an o",
             setting: *setting,

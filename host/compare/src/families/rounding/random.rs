@@ -2,7 +2,7 @@
 
 use super::fitting;
 use crate::cases::{refused, TicketCase, Visitor};
-use crate::families::craft::{by_sums, claims_case, full_by_sums, sizes_up_to, visit_claims};
+use crate::families::craft::{by_list, claims_case, full_by_sums, sizes_up_to, visit_claims};
 use crate::families::random::{damage, random_setting, rounds, within_ranges};
 use crate::families::settings::refusal;
 use crate::families::writer::random::{visit_operands, visit_setting};
@@ -37,7 +37,7 @@ fn visit_ticket(visit: &mut Visitor, generator: &mut Generator, setting: &Settin
             };
             let refusal = refusal(&other);
             visit.challenge(&TicketCase {
-                expected: Some(refusal.unwrap_or_else(|| by_sums(&other, &parts, &list))),
+                expected: Some(refusal.unwrap_or_else(|| by_list(&other, &parts, &list))),
                 ..claims_case("another o", &other, &parts, &list)
             });
             let in_full = refusal.unwrap_or_else(|| full_by_sums(&other, &parts));

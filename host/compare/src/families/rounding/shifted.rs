@@ -1,9 +1,10 @@
 //! Tickets whose claims are off by one number in every column of a row. A vector
-//! whose numbers add up to 0 modulo p accepts them, and every other catches them.
+//! whose numbers add up to 0 modulo p accepts them, unless it is of zeros, and every
+//! other catches them.
 
 use super::{fitting, largest_rounding};
 use crate::cases::{accepted, accepted_in_full, caught, refused, untrue, TicketCase, Visitor};
-use crate::families::craft::{list, sizes, sizes_up_to, true_parts, P};
+use crate::families::craft::{list, sizes, sizes_up_to, true_parts, unless_zeros, P};
 use crate::families::settings::refusal;
 use crate::families::writer::visit_written;
 use crate::generator::Generator;
@@ -127,6 +128,7 @@ fn visit_shifted(visit: &mut Visitor, generator: &mut Generator, setting: &Setti
             (Some(t), Some(i)) => caught(setting, t, i),
             _ => accepted(setting),
         };
+        let by_list = unless_zeros(setting, &list, by_list);
         visit.challenge(&TicketCase {
             what,
             setting: *setting,
