@@ -14,6 +14,7 @@ pub mod rounding;
 pub mod settings;
 mod true_tickets;
 pub mod writer;
+mod zeros;
 
 use crate::cases::{Cases, Family};
 use crate::setting::Form;
@@ -120,7 +121,7 @@ const BIAS: [(&str, Cases); 6] = [
     ("random bias tickets, the largest", random::largest),
 ];
 
-/// Of both forms, with a rounding number. In all others o is 0.
+/// Of both forms, with a rounding number. In all before these o is 0.
 const ROUNDING: [(&str, Cases); 18] = [
     ("examples with a rounding number", rounding::examples::examples),
     (
@@ -181,6 +182,26 @@ const ROUNDING: [(&str, Cases); 18] = [
     ),
 ];
 
+/// Of both forms, on vectors of zeros.
+const ZEROS: [(&str, Cases); 13] = [
+    ("examples of vectors of zeros", zeros::examples),
+    ("one vector of zeros, in every place", zeros::one_vector),
+    ("vectors of zeros, in every set of places", zeros::every_set),
+    ("vectors of zeros and a list number of p or more", zeros::numbers_beyond),
+    ("lists of zeros of every length", zeros::lengths),
+    ("zeros that stand together", zeros::runs),
+    (
+        "one zero in a list, and one other number in a vector",
+        zeros::one_number,
+    ),
+    ("all lists of four numbers", zeros::four_numbers),
+    ("lists of one column", zeros::one_column),
+    ("false tickets accepted, and with a vector of zeros", zeros::hidden),
+    ("vectors of zeros and other refusals", zeros::other_refusals),
+    ("vectors of zeros in the largest lists", zeros::largest),
+    ("random lists with vectors of zeros", zeros::random),
+];
+
 /// All families, in the order of digests.txt.
 pub fn all() -> Vec<Family> {
     let family = |name: String, form, cases| Family { name, form, cases };
@@ -193,5 +214,7 @@ pub fn all() -> Vec<Family> {
     all.extend(BIAS.iter().map(of_bias));
     all.extend(ROUNDING.iter().map(of_plain));
     all.extend(ROUNDING.iter().map(with_a_bias));
+    all.extend(ZEROS.iter().map(of_plain));
+    all.extend(ZEROS.iter().map(with_a_bias));
     all
 }

@@ -18,6 +18,7 @@ mod surroundings;
 mod ticket_length;
 mod unreadable;
 mod value;
+pub mod zeros;
 
 use crate::case::Family;
 
@@ -51,6 +52,7 @@ pub fn all(permissions_hold: bool) -> Vec<Family> {
         Family::new("rounded false tickets drawn", drawn::false_tickets(Rounding::Drawn)),
         Family::new("rounded tickets of another number drawn", drawn::tickets_of_another()),
         Family::new("rounding numbers with a bit changed, drawn", drawn::changed_bits()),
+        Family::new("vectors of zeros", zeros::cases()),
     ]
 }
 

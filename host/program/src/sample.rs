@@ -147,6 +147,17 @@ pub fn caught(setting: &Setting, t: u32, i: u32) -> String {
     format!("12 {t} {i} {products}")
 }
 
+/// "It refuses the first such vector as 21 with its t": the line for a list of the
+/// right length whose numbers are below p, if this is the line without a vector of
+/// zeros.
+pub fn unless_zeros(setting: &Setting, list: &[u32], line: String) -> String {
+    let mut vectors = list.chunks(setting.columns as usize);
+    match vectors.position(|vector| vector.iter().max() == Some(&0)) {
+        Some(t) => refused(21, t),
+        None => line,
+    }
+}
+
 /// "Row and products are 0 except for 12 and 16."
 pub fn refused(number: u32, place: usize) -> String {
     format!("{number} {place} 0 0")

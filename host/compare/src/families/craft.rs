@@ -296,6 +296,16 @@ pub fn list_without_zero(generator: &mut Generator, setting: &Setting) -> Vec<u3
     list
 }
 
+/// A well-formed list: the same as `list`, with 1 last in each vector of zeros.
+pub fn well_formed_list(generator: &mut Generator, setting: &Setting) -> Vec<u32> {
+    let mut list = list(generator, setting);
+    let columns = setting.columns as usize;
+    while let Some(t) = first_of_zeros(setting, &list) {
+        list[(t + 1) * columns - 1] = 1;
+    }
+    list
+}
+
 /// The first vector of a list that is of zeros alone.
 pub fn first_of_zeros(setting: &Setting, list: &[u32]) -> Option<usize> {
     list.chunks(setting.columns as usize)

@@ -149,7 +149,7 @@ pub fn last_records(visit: &mut Visitor, form: Form) {
 
 /// For each part its first record, how many it has, the number of its range and
 /// a value just outside. A plain ticket has no bias.
-fn parts_of(setting: &Setting) -> Vec<(usize, usize, u32, u32)> {
+pub fn parts_of(setting: &Setting) -> Vec<(usize, usize, u32, u32)> {
     let [a, b, bias, claims] = counts(setting);
     let mut parts = vec![
         (0, a, 7, setting.bound + 1),
@@ -164,7 +164,7 @@ fn parts_of(setting: &Setting) -> Vec<(usize, usize, u32, u32)> {
 
 /// What can be wrong with a record.
 #[derive(Clone, Copy, PartialEq, Eq)]
-enum Fault {
+pub enum Fault {
     /// One of its first four bytes.
     Head(usize),
     /// A value of p or more.
@@ -173,7 +173,7 @@ enum Fault {
     Range,
 }
 
-const FAULTS: [Fault; 7] = [
+pub const FAULTS: [Fault; 7] = [
     Fault::Head(0),
     Fault::Head(1),
     Fault::Head(2),
@@ -184,7 +184,7 @@ const FAULTS: [Fault; 7] = [
 ];
 
 /// Puts a fault into a record and says which number it has.
-fn spoil(setting: &Setting, ticket: &mut [u8], record: usize, fault: Fault) -> u32 {
+pub fn spoil(setting: &Setting, ticket: &mut [u8], record: usize, fault: Fault) -> u32 {
     match fault {
         Fault::Head(byte) => {
             ticket[8 * record + byte] ^= 0x04;

@@ -3,7 +3,7 @@
 
 use super::craft::{
     claims_case, differences, falsify, fitting, full_by_sums, list, list_without_zero, sizes, sizes_up_to, true_parts,
-    visit_claims, P,
+    unless_zeros, visit_claims, P,
 };
 use crate::cases::{accepted, caught, untrue, TicketCase, Visitor};
 use crate::generator::Generator;
@@ -12,15 +12,19 @@ use crate::setting::{Form, Setting};
 
 const SMALL: [u32; 4] = [5, 5, 5, 8];
 
-/// Visits a case that is accepted, and the same with one number of the list
-/// changed, which mostly is not.
+/// A ticket within the ranges, mostly a false one, and a list that is accepted with
+/// it, if no vector is of zeros.
+pub type Hidden = (Setting, Parts, Vec<u32>);
+
+/// Visits a case that is accepted, if no vector is of zeros, and the same with one
+/// number of the list changed, which mostly is not.
 pub fn visit_accepted(visit: &mut Visitor, generator: &mut Generator, setting: &Setting, parts: &Parts, list: &[u32]) {
     visit.challenge(&TicketCase {
         what: "false, the list made for it",
         setting: *setting,
         ticket: parts.ticket(setting),
         list: list.to_vec(),
-        expected: Some(accepted(setting)),
+        expected: Some(unless_zeros(setting, list, accepted(setting))),
     });
     let mut other = list.to_vec();
     let index = generator.below(other.len());
@@ -28,29 +32,35 @@ pub fn visit_accepted(visit: &mut Visitor, generator: &mut Generator, setting: &
     visit_claims(visit, "false, one number changed", setting, parts, &other);
 }
 
-/// Some columns are false, in some rows, and X(j) is 0 in each of these.
+/// Some columns are false, in some rows, and X(j) is 0 in each of these. Where all
+/// columns are false, as where there is but one, every vector is of zeros.
 pub fn zeros(visit: &mut Visitor, form: Form) {
     let mut generator = Generator::new(501);
     for round in 0..10_000 {
         let most = if round % 100 == 0 { [32, 64, 32, 8] } else { SMALL };
-        let sizes_of_ticket = sizes_up_to(&mut generator, most);
-        let setting = fitting(&mut generator, form, sizes_of_ticket);
-        let [rows, _, columns, _] = sizes(&setting);
-        let mut parts = true_parts(&mut generator, &setting);
-        let mut list = list(&mut generator, &setting);
-        // From one false column up to all of them.
-        for _ in 0..=generator.below(columns) {
-            let j = generator.below(columns);
-            for _ in 0..=generator.below(rows) {
-                let i = generator.below(rows);
-                falsify(&mut generator, &setting, &mut parts, i, j);
-            }
-            for vector in list.chunks_mut(columns) {
-                vector[j] = 0;
-            }
-        }
+        let (setting, parts, list) = zeros_up_to(&mut generator, form, most);
         visit_accepted(visit, &mut generator, &setting, &parts, &list);
     }
+}
+
+fn zeros_up_to(generator: &mut Generator, form: Form, most: [u32; 4]) -> Hidden {
+    let sizes_of_ticket = sizes_up_to(generator, most);
+    let setting = fitting(generator, form, sizes_of_ticket);
+    let [rows, _, columns, _] = sizes(&setting);
+    let mut parts = true_parts(generator, &setting);
+    let mut list = list(generator, &setting);
+    // From one false column up to all of them.
+    for _ in 0..=generator.below(columns) {
+        let j = generator.below(columns);
+        for _ in 0..=generator.below(rows) {
+            let i = generator.below(rows);
+            falsify(generator, &setting, &mut parts, i, j);
+        }
+        for vector in list.chunks_mut(columns) {
+            vector[j] = 0;
+        }
+    }
+    (setting, parts, list)
 }
 
 fn residue(x: i128) -> u64 {
@@ -80,11 +90,17 @@ fn inverse(x: u64) -> u64 {
 pub fn cancelling(visit: &mut Visitor, form: Form) {
     let mut generator = Generator::new(502);
     for _ in 0..5_000 {
-        one_row(visit, &mut generator, form);
-        same_steps(visit, &mut generator, form);
-        two_rows(visit, &mut generator, form);
+        for hide in [one_row, same_steps, two_rows] {
+            let (setting, parts, list) = hide(&mut generator, form);
+            visit_accepted(visit, &mut generator, &setting, &parts, &list);
+        }
     }
 }
+
+/// All ways of hiding what is false from a list, in small tickets.
+pub const HIDE: [fn(&mut Generator, Form) -> Hidden; 4] = [one_row, same_steps, two_rows, |generator, form| {
+    zeros_up_to(generator, form, SMALL)
+}];
 
 /// A small setting of at least two columns, and the parts of a true ticket.
 fn two_columns_or_more(generator: &mut Generator, form: Form) -> (Setting, Parts) {
@@ -95,7 +111,7 @@ fn two_columns_or_more(generator: &mut Generator, form: Form) -> (Setting, Parts
     (setting, parts)
 }
 
-fn one_row(visit: &mut Visitor, generator: &mut Generator, form: Form) {
+fn one_row(generator: &mut Generator, form: Form) -> Hidden {
     let (setting, mut parts) = two_columns_or_more(generator, form);
     let [rows, _, columns, _] = sizes(&setting);
     let i = generator.below(rows);
@@ -113,10 +129,10 @@ fn one_row(visit: &mut Visitor, generator: &mut Generator, form: Form) {
         let last = inverse(residue(row[columns - 1]));
         x[columns - 1] = multiply(residue(-others), last) as u32;
     }
-    visit_accepted(visit, generator, &setting, &parts, &list);
+    (setting, parts, list)
 }
 
-fn same_steps(visit: &mut Visitor, generator: &mut Generator, form: Form) {
+fn same_steps(generator: &mut Generator, form: Form) -> Hidden {
     let (setting, mut parts) = two_columns_or_more(generator, form);
     let [rows, _, columns, _] = sizes(&setting);
     let up = generator.below(columns);
@@ -133,10 +149,10 @@ fn same_steps(visit: &mut Visitor, generator: &mut Generator, form: Form) {
     for x in list.chunks_mut(columns) {
         x[down] = x[up];
     }
-    visit_accepted(visit, generator, &setting, &parts, &list);
+    (setting, parts, list)
 }
 
-fn two_rows(visit: &mut Visitor, generator: &mut Generator, form: Form) {
+fn two_rows(generator: &mut Generator, form: Form) -> Hidden {
     let [_, inner, _, vectors] = sizes_up_to(generator, SMALL);
     let setting = fitting(generator, form, [2, inner, 3, vectors]);
     let mut parts = true_parts(generator, &setting);
@@ -154,11 +170,12 @@ fn two_rows(visit: &mut Visitor, generator: &mut Generator, form: Form) {
             *number = multiply(residue(d[k] * d[3 + l] - d[l] * d[3 + k]), times) as u32;
         }
     }
-    visit_accepted(visit, generator, &setting, &parts, &list);
+    (setting, parts, list)
 }
 
 /// False in one row only, and every vector before t is 0 in its false columns:
-/// caught in vector t and that row, and in no other.
+/// caught in vector t and that row, and in no other. With one column these vectors are
+/// of zeros, and refused.
 pub fn caught_late(visit: &mut Visitor, form: Form) {
     let mut generator = Generator::new(503);
     for round in 0..24 {
@@ -189,8 +206,8 @@ pub fn caught_late(visit: &mut Visitor, form: Form) {
                         what: "caught in a later vector or row",
                         setting,
                         ticket: parts.ticket(&setting),
+                        expected: Some(unless_zeros(&setting, &list, caught(&setting, t, i))),
                         list,
-                        expected: Some(caught(&setting, t, i)),
                     };
                     visit.challenge(&case);
                     let in_full = untrue(&setting, i * columns + j);

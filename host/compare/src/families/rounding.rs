@@ -1,5 +1,5 @@
 //! The families of settings with a rounding number o, and the pieces that they are
-//! made of. In all other families o is 0.
+//! made of. In all other families o is 0, but for those on vectors of zeros.
 
 pub mod examples;
 pub mod limits;

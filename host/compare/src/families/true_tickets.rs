@@ -7,8 +7,7 @@ use crate::generator::Generator;
 use crate::setting::{Form, Setting};
 
 /// Lists of each kind: random, one number over and over, one number that is not
-/// 0 in each vector. All but that of zeros, and mostly the random one, are well
-/// formed.
+/// 0 in each vector. That of zeros is not well formed, and the random one not always.
 pub fn lists(generator: &mut Generator, setting: &Setting) -> Vec<Vec<u32>> {
     let [_, _, columns, vectors] = sizes(setting);
     let count = vectors * columns;

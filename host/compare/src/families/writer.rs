@@ -8,7 +8,7 @@ pub mod refusals;
 
 use apart::examples::{A, B, BIAS};
 
-use super::craft::{k, list, sizes};
+use super::craft::{k, list, sizes, unless_zeros};
 use crate::cases::{accepted, accepted_in_full, TicketCase, Visitor, WriterCase, Writing};
 use crate::generator::Generator;
 use crate::parts::Parts;

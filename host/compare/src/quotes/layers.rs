@@ -5,7 +5,7 @@ use apart::{Answer, Quote};
 
 use super::{line, Visitor};
 use crate::cases::{self, refused, Call};
-use crate::families::craft::{fits, list, operands, sizes_up_to};
+use crate::families::craft::{fits, operands, sizes_up_to, well_formed_list};
 use crate::families::rounding::fitting;
 use crate::generator::Generator;
 use crate::setting::{Form, Setting};
@@ -38,7 +38,7 @@ impl Layer {
             a,
             b,
             bias,
-            list: list(generator, setting),
+            list: well_formed_list(generator, setting),
             wider,
         }
     }

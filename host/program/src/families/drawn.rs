@@ -5,7 +5,7 @@ use apart::{challenge_check, Setting};
 
 use crate::case::{Case, Entry};
 use crate::random::Random;
-use crate::sample::{accepted, caught, refused, Sample, P};
+use crate::sample::{accepted, caught, refused, unless_zeros, Sample, P};
 
 const TRUE: usize = 20;
 const FALSE: usize = 30;
@@ -19,20 +19,21 @@ pub enum Rounding {
     Drawn,
 }
 
-/// All accepted.
+/// All accepted, if no vector is of zeros.
 pub fn true_tickets(rounding: Rounding) -> Vec<Case> {
     let mut random = Random::new(1);
     (0..TRUE)
         .map(|k| {
             let (sample, _) = draw(&mut random, rounding);
             let case = sample.case(format!("true ticket {k} {:?}", sample.setting.numbers()));
-            case.states(accepted(&sample.setting))
+            case.states(unless_zeros(&sample.setting, &sample.list, accepted(&sample.setting)))
         })
         .collect()
 }
 
 /// One claim is changed, within its range: caught in its row by the first vector
-/// that is not 0 in its column. The change is less than 2^v·α, which is below p.
+/// that is not 0 in its column, if no vector is of zeros. The change is less than
+/// 2^v·α, which is below p.
 pub fn false_tickets(rounding: Rounding) -> Vec<Case> {
     let mut random = Random::new(2);
     (0..FALSE)
@@ -54,7 +55,7 @@ pub fn false_tickets(rounding: Rounding) -> Vec<Case> {
             };
             sample.ticket = parts.ticket(&setting);
             let case = sample.case(format!("false ticket {k} {:?}", setting.numbers()));
-            case.states(line)
+            case.states(unless_zeros(&setting, &sample.list, line))
         })
         .collect()
 }
@@ -111,8 +112,8 @@ pub fn changed_bits() -> Vec<Case> {
 }
 
 /// The ticket under another o, by which every claim is off by the same: caught in
-/// row 0 by the first vector whose numbers don't sum to 0, if that o is below α
-/// and the setting fits with it.
+/// row 0 by the first vector whose numbers don't sum to 0, if that o is below α, the
+/// setting fits with it and no vector is of zeros.
 fn under_another(random: &mut Random, mut sample: Sample, rounding: u32) -> Case {
     let before = sample.setting.rounding;
     let setting = Setting {
@@ -120,9 +121,10 @@ fn under_another(random: &mut Random, mut sample: Sample, rounding: u32) -> Case
         ..sample.setting
     };
     sample.setting = setting;
-    // The first few vectors don't see it.
+    // The first few vectors don't see it; of one number those would be of zeros.
     let columns = setting.columns as usize;
     let unseen = random.index(setting.vectors as usize + 1);
+    let unseen = if columns == 1 { 0 } else { unseen };
     for vector in sample.list.chunks_mut(columns).take(unseen) {
         let (last, others) = vector.split_last_mut().expect("a column");
         *last = (P - sum(others)) % P;
@@ -132,10 +134,12 @@ fn under_another(random: &mut Random, mut sample: Sample, rounding: u32) -> Case
         refused(19, 0)
     } else if left_side(&setting) > u64::from(setting.scale) << (setting.width - 1) {
         refused(3, 0)
-    } else if let Some(t) = seeing {
-        caught(&setting, t as u32, 0)
     } else {
-        accepted(&setting)
+        let line = match seeing {
+            Some(t) => caught(&setting, t as u32, 0),
+            None => accepted(&setting),
+        };
+        unless_zeros(&setting, &sample.list, line)
     };
     let case = sample.case(format!("the ticket of o = {before} under {:?}", setting.numbers()));
     case.states(line)

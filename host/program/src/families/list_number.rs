@@ -1,11 +1,11 @@
 //! The numbers of the list: p and above is 11 at its index, below it is taken as
-//! it stands, all of its four bytes.
+//! it stands, all of its four bytes. Zeros only are 21.
 
 use apart::examples::with_claims;
 use apart::program::challenge_file;
 
 use crate::case::Case;
-use crate::sample::{accepted, refused, Sample, P};
+use crate::sample::{accepted, refused, unless_zeros, Sample, P};
 
 pub fn cases() -> Vec<Case> {
     [too_large(), below(), every_byte()].concat()
@@ -38,8 +38,9 @@ fn below() -> Vec<Case> {
     for sample in [Sample::of_c(), Sample::of_three_vectors()] {
         for number in [0, 1 << 30, P - 1] {
             let case = sample.case(format!("{} numbers of {number}", sample.list.len()));
-            let case = case.challenge(challenge_file(&vec![number; sample.list.len()]));
-            cases.push(case.states(accepted(&sample.setting)));
+            let list = vec![number; sample.list.len()];
+            let line = unless_zeros(&sample.setting, &list, accepted(&sample.setting));
+            cases.push(case.challenge(challenge_file(&list)).states(line));
         }
     }
     cases

@@ -1,5 +1,6 @@
 //! Several things wrong at once: the earliest test wins. "1, 2, 3, 4; then
-//! record after record, each by 5, 6 and its own range; then 10, 11, 12".
+//! record after record, each by 5, 6 and its own range; then 10, 11, 12", and 21
+//! "once every list number has passed 11".
 
 use apart::examples::{with_claims, K};
 use apart::program::challenge_file;
@@ -50,6 +51,7 @@ fn challenges() -> Vec<Fault> {
         fault("no list", Vec::new(), "10 0 0 0"),
         fault("challenge of 9 bytes", cycle(&challenge_file(&[1, 2]), 9), "10 0 0 0"),
         fault("p at index 1", challenge_file(&[1, P]), "11 1 0 0"),
+        fault("two zeros", challenge_file(&[0, 0]), "21 0 0 0"),
     ]
 }
 
@@ -179,6 +181,12 @@ fn within_a_list() -> Vec<Case> {
     let case = three
         .case("2^32 - 1 at index 6, p at index 14")
         .challenge(challenge_file(&list));
+    let of_two = |description: &str, list: &[u32]| {
+        c.case(description)
+            .setting(setting_bytes(&Setting { vectors: 2, ..K }))
+            .ticket(false_ticket())
+            .challenge(challenge_file(list))
+    };
     vec![
         c.case("three numbers of p")
             .challenge(challenge_file(&[P; 3]))
@@ -188,15 +196,16 @@ fn within_a_list() -> Vec<Case> {
             .states("11 0 0 0"),
         case.states("11 6 0 0"),
         // The first vector catches, and the list is tested whole before it.
-        c.case("a false ticket, p at index 3 of two vectors")
-            .setting(setting_bytes(&Setting { vectors: 2, ..K }))
-            .ticket(false_ticket())
-            .challenge(challenge_file(&[1, 5, 1, P]))
-            .states("11 3 0 0"),
-        c.case("a false ticket caught by the first vector and the second")
-            .setting(setting_bytes(&Setting { vectors: 2, ..K }))
-            .ticket(false_ticket())
-            .challenge(challenge_file(&[1, 5, 1, 5]))
-            .states("12 0 0 8"),
+        of_two("a false ticket, p at index 3 of two vectors", &[1, 5, 1, P]).states("11 3 0 0"),
+        of_two(
+            "a false ticket caught by the first vector and the second",
+            &[1, 5, 1, 5],
+        )
+        .states("12 0 0 8"),
+        of_two("a false ticket caught by the first vector, zeros second", &[1, 5, 0, 0]).states("21 1 0 0"),
+        of_two("a false ticket, zeros first, p at index 3", &[0, 0, 1, P]).states("11 3 0 0"),
+        of_two("a false ticket, p at index 0, zeros second", &[P, 5, 0, 0]).states("11 0 0 0"),
+        of_two("a false ticket, three zeros for two vectors", &[0; 3]).states("10 0 0 0"),
+        of_two("a false ticket, six zeros for two vectors", &[0; 6]).states("10 0 0 0"),
     ]
 }

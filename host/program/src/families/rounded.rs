@@ -71,7 +71,7 @@ fn marked_examples() -> Vec<Case> {
 }
 
 /// Every claim is off by the same, so it is caught in row 0, unless the numbers
-/// of the vector sum to 0.
+/// of the vector sum to 0. Zeros are refused.
 fn of_another_number() -> Vec<Case> {
     let case = |ticket: &[u8], rounding: u32, list: &[u32]| {
         let vectors = list.len() as u32 / 2;
@@ -92,7 +92,7 @@ fn of_another_number() -> Vec<Case> {
         cases.push(case(&TICKET, rounding, &[1, 2]).states("12 0 0 8"));
     }
     for (ticket, rounding) in [(&ROUNDED_TICKET, 0), (&TICKET, 5)] {
-        cases.push(case(ticket, rounding, &[0, 0]).states("0 0 0 12"));
+        cases.push(case(ticket, rounding, &[0, 0]).states("21 0 0 0"));
         cases.push(case(ticket, rounding, &[1, P - 1]).states("0 0 0 12"));
         cases.push(case(ticket, rounding, &[1, P - 1, 0, 1]).states("12 1 0 20"));
     }

@@ -30,9 +30,9 @@ fn stated_answers_are_those_written_apart() {
 }
 
 #[test]
-fn every_number_from_0_to_12_and_19() {
+fn every_number_from_0_to_12_and_19_and_21() {
     let lines: Vec<String> = all_cases().map(Case::expected).collect();
-    for number in (0..=12).chain([19]) {
+    for number in (0..=12).chain([19, 21]) {
         let begin = format!("{number} ");
         assert!(
             lines.iter().filter(|line| line.starts_with(&begin)).count() >= 5,

@@ -11,13 +11,19 @@ pub fn cases() -> Vec<Case> {
     [ranges(), large(), before_the_value()].concat()
 }
 
-/// The ticket of case c with another value, and a list of zeros, by which
-/// nothing is caught.
+/// The ticket of case c with another value, and a list by which it is not caught.
+/// Record 0 is multiplied by -1 and 6, the first row of B; record 8 is in column 0,
+/// 7 and 15 are in column 1.
 fn with_value(record: usize, value: u32) -> Case {
     let c = Sample::of_c();
+    let list = match record {
+        0 => [6, 1],
+        8 => [0, 5],
+        _ => [5, 0],
+    };
     c.case(format!("{value} in record {record}"))
         .ticket(c.with_value(record, value))
-        .challenge(challenge_file(&[0, 0]))
+        .challenge(challenge_file(&list))
 }
 
 fn ranges() -> Vec<Case> {

@@ -56,7 +56,7 @@ fn as_expected() {
         text,
         "one: 1 folders, ok, digest 703795ab4aa95788\n\
          folders as expected, by number: 0: 1, 1: 0, 2: 0, 3: 0, 4: 0, 5: 0, 6: 0, 7: 0, 8: 0, 9: 0, 10: 0, \
-         11: 0, 12: 0, 19: 0; FAILED\n\
+         11: 0, 12: 0, 19: 0, 21: 0; FAILED\n\
          digests.txt: every line is of a family\n\
          families 1, folders 1, as expected 1\n\
          2 passed, 1 failed\n"
@@ -65,8 +65,8 @@ fn as_expected() {
 
 #[test]
 fn every_number() {
-    use crate::families::{marked, rounding_number};
-    let [examples, others] = [marked::cases(), rounding_number::cases()].map(|cases| {
+    use crate::families::{marked, rounding_number, zeros};
+    let [examples, others, zeros] = [marked::cases(), rounding_number::cases(), zeros::cases()].map(|cases| {
         let printing = |case: Case| {
             let output = case.expected();
             case.argument("-c")
@@ -74,10 +74,14 @@ fn every_number() {
         };
         cases.into_iter().map(printing).collect()
     });
-    let families = [Family::new("first", examples), Family::new("second", others)];
+    let families = [
+        Family::new("first", examples),
+        Family::new("second", others),
+        Family::new("third", zeros),
+    ];
     let (passed, text) = report_on(&families);
     assert!(passed, "{text}");
-    assert!(text.ends_with("\n4 passed, 0 failed\n"), "{text}");
+    assert!(text.ends_with("\n5 passed, 0 failed\n"), "{text}");
 }
 
 #[test]

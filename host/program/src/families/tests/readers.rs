@@ -303,3 +303,69 @@ fn another_order_of_the_tests() {
         }
     }));
 }
+
+/// The numbers of a challenge file, vector by vector. n is within its limits where 21
+/// can be the answer.
+fn vectors_of(setting: &[u8], challenge: &[u8]) -> Vec<Vec<u32>> {
+    let columns = setting.get(2).map_or(1, |&n| usize::from(n.clamp(1, 32)));
+    let (numbers, _) = challenge.as_chunks();
+    let numbers: Vec<u32> = numbers.iter().map(|&bytes| u32::from_le_bytes(bytes)).collect();
+    numbers.chunks(columns).map(<[u32]>::to_vec).collect()
+}
+
+/// Whether a reader is found in these families that prints this line, or none of its
+/// own, by the right one and the vectors.
+fn is_found_in(families: &[&str], reader: fn(&str, &[Vec<u32>]) -> Option<String>) -> bool {
+    families.iter().all(|family| {
+        is_found(family, |setting, ticket, challenge| {
+            let line = right(setting, ticket, challenge);
+            reader(&line, &vectors_of(setting, challenge)).unwrap_or(line)
+        })
+    })
+}
+
+fn is_of_zeros(vector: &[u32]) -> bool {
+    vector.iter().all(|&number| number == 0)
+}
+
+#[test]
+fn vectors_of_zeros() {
+    let families = ["vectors of zeros"];
+    let both = ["vectors of zeros", "precedence of the tests"];
+    let line = |t: usize| format!("21 {t} 0 0\n");
+    // One zero is enough.
+    assert!(is_found_in(&families, |line, vectors| {
+        let t = vectors.iter().position(|vector| vector.contains(&0))?;
+        ["0 ", "12 "]
+            .iter()
+            .any(|begin| line.starts_with(begin))
+            .then(|| format!("21 {t} 0 0\n"))
+    }));
+    // Only the first vector is tested, or only the last.
+    assert!(is_found_in(&both, |line, vectors| {
+        (line.starts_with("21 ") && !is_of_zeros(&vectors[0])).then(|| "0 0 0 0\n".to_owned())
+    }));
+    assert!(is_found_in(&families, |line, vectors| {
+        (line.starts_with("21 ") && !is_of_zeros(vectors.last()?)).then(|| "0 0 0 0\n".to_owned())
+    }));
+    // The place is that of the last such vector, or that of a number.
+    assert!(is_found_in(&families, |line, vectors| {
+        let t = vectors.iter().rposition(|vector| is_of_zeros(vector))?;
+        line.starts_with("21 ").then(|| format!("21 {t} 0 0\n"))
+    }));
+    assert!(is_found_in(&both, |line, vectors| {
+        let t = vectors.iter().position(|vector| is_of_zeros(vector))?;
+        let index = t * vectors[0].len();
+        line.starts_with("21 ").then(|| format!("21 {index} 0 0\n"))
+    }));
+    // It comes before 11, or before 10.
+    for begin in ["11 ", "10 "] {
+        assert!(both.iter().all(|family| is_found(family, |setting, ticket, challenge| {
+            let right = right(setting, ticket, challenge);
+            let t = vectors_of(setting, challenge)
+                .iter()
+                .position(|vector| is_of_zeros(vector));
+            t.filter(|_| right.starts_with(begin)).map_or(right, line)
+        })));
+    }
+}
