@@ -99,10 +99,7 @@ fn first_nonzero(vector: &[u32]) -> usize
     ensures { λ r. ⌜ r ≡ first (length (now (vector .entry))) (λ j. eqb (getD (now (vector .entry)) j 0) 0) ⌝ }
 {
     let mut j = 0;
-    while j < vector.len() {
-        if vector[j] != 0 {
-            return j;
-        }
+    while j < vector.len() && vector[j] == 0 {
         j += 1;
     }
     j

@@ -63,9 +63,9 @@ rounded o = plain (numbers 2 10 8 5 o)
 both : ℕ → ℕ → Setting
 both o W = withBias (numbers 2 10 8 5 o) W
 
--- K with s vectors
-several : ℕ → PlainSetting
-several s = record { rows = 2; inner = 2; columns = 2; vectors = s; scale = 10; bound = 8; width = 5; rounding = 0 }
+-- those of K, but for the sizes, as many rows as columns, and the vectors
+sized : ℕ → ℕ → ℕ → PlainSetting
+sized n m s = record { rows = n; inner = m; columns = n; vectors = s; scale = 10; bound = 8; width = 5; rounding = 0 }
 
 -- A and B with this bias and these quotients and remainders, under the setting G
 under : Setting → List ℤ → List ℤ → List ℤ → Case
@@ -123,17 +123,17 @@ unrounded = under (rounded 5) [] (minus 2 ∷ pos 3 ∷ pos 2 ∷ minus 1 ∷ []
 
 -- the claims of the true case and of the one with a bias, under K with s vectors, the last remainder but for e
 withSeveral : ℕ → ℤ → Case
-withSeveral s e = under (plain (several s)) [] (minus 2 ∷ pos 3 ∷ pos 2 ∷ minus 1 ∷ []) (pos 3 ∷ pos 4 ∷ pos 3 ∷ e ∷ [])
+withSeveral s e = under (plain (sized 2 2 s)) [] (minus 2 ∷ pos 3 ∷ pos 2 ∷ minus 1 ∷ []) (pos 3 ∷ pos 4 ∷ pos 3 ∷ e ∷ [])
 
 severalBiased : ℕ → ℤ → Case
 severalBiased s e =
-    under (withBias (several s) 23) (biasOf (minus 4) (pos 5)) (minus 3 ∷ pos 5 ∷ pos 0 ∷ pos 0 ∷ []) (pos 9 ∷ pos 7 ∷ pos 0 ∷ e ∷ [])
+    under (withBias (sized 2 2 s) 23) (biasOf (minus 4) (pos 5)) (minus 3 ∷ pos 5 ∷ pos 0 ∷ pos 0 ∷ []) (pos 9 ∷ pos 7 ∷ pos 0 ∷ e ∷ [])
 
 -- 2 times 3 with one row and one column, and the remainder r
 oneColumn : ℤ → Case
 oneColumn r =
     record {
-      setting = plain (record { rows = 1; inner = 1; columns = 1; vectors = 1; scale = 10; bound = 8; width = 5; rounding = 0 });
+      setting = plain (sized 1 1 1);
       A = pos 2 ∷ [];
       B = pos 3 ∷ [];
       bias = [];
@@ -359,7 +359,7 @@ unfolding modulus leastResidue signedEntry sumℤ matrixProduct floorDivision fi
     hasBias biasBound biasColumns biasWithin roundingWithin entryBias listNumber firstNonzero vectorNumber listReading productB
     claimSide operandSide balanced firstRow verdict challengeCheck same holds fullVerdict fullCheck joined beyondNumber operandsReading
     writing quotientOf remainderOf integersOf integerIn recordOf ticketRecord ticketOf minus recordsFrom ticket numbers setting biased
-    rounded both several under claiming biasedBy biasOf biasCase falseBias trueRemainders trueCase changed roundedBy roundedBias
+    rounded both sized under claiming biasedBy biasOf biasCase falseBias trueRemainders trueCase changed roundedBy roundedBias
     unrounded withSeveral severalBiased oneColumn trueTicket biasTicket roundedTicket smallestWidth quoteTests quoteOf figured examples
     each by-rules
 examples-hold = refl
