@@ -29,6 +29,11 @@ pub fn challenge_check(setting: Setting, ticket: &[u8], list: &[u32]) -> Answer 
             return refused(11, index);
         }
     }
+    for t in 0..vectors {
+        if list[t * columns..(t + 1) * columns].iter().all(|&number| number == 0) {
+            return refused(21, t);
+        }
+    }
 
     let a = &values[..rows * inner];
     let b = &values[rows * inner..rows * inner + inner * columns];
