@@ -90,7 +90,7 @@ pub drawn-with-zero : (b n s : ℕ) → (b ^ n - cond false 1 0) ^ s ≡ b ^ (s 
 drawn-with-zero b n s = ap (λ m. m ^ s) (sub-zero (b ^ n)) ∙ pow-pow b n s
 
 pub drawn-no-more : (b n s : ℕ) (nonzero : Bool) → (b ^ n - cond nonzero 1 0) ^ s ≤ b ^ (s * n)
-drawn-no-more b n s nonzero = rw (← pow-pow b n s) (pow-le-pow-left (omega arith) s)
+drawn-no-more b n s nonzero = rw (← drawn-with-zero b n s) (pow-le-pow-left (omega arith) s)
 
 -- a power of a product
 product-power : (a b s : ℕ) → a ^ s * b ^ s ≡ (a * b) ^ s
