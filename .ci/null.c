@@ -69,9 +69,13 @@ static void count(const char *what, int is_right)
     }
 }
 
-static int is_same(dikdumar_answer x, dikdumar_answer y)
+/* What a call gives. All but those of runs give no state and no mark, which are 0
+ * then. */
+typedef dikdumar_run_answer reply;
+
+static int is_same(reply x, reply y)
 {
-    return x.number == y.number && x.place == y.place && x.row == y.row && x.products == y.products;
+    return memcmp(&x, &y, sizeof x) == 0;
 }
 
 /* What a pointer and the length beside it lend. */
@@ -94,7 +98,7 @@ static lent without_null(lent given, const void *valid)
 }
 
 /* The calls, and their pointers in order. */
-enum { CHALLENGE, FULL, WRITER, BIAS_CHALLENGE, BIAS_FULL, BIAS_WRITER, CALLS };
+enum { CHALLENGE, FULL, WRITER, BIAS_CHALLENGE, BIAS_FULL, BIAS_WRITER, RUN_BEGIN, RUN_STEP, RUN_ADD, CALLS };
 enum { POINTERS = 4, SETS = 1 << POINTERS, CHOICES = 4 };
 typedef struct {
     const char *name;
@@ -108,17 +112,21 @@ static const declaration CALL[CALLS] = {
     {"dikdumar_bias_challenge_check", 2, {"ticket", "list"}},
     {"dikdumar_bias_full_check", 1, {"ticket"}},
     {"dikdumar_write_bias_ticket", 4, {"a", "b", "bias", "output"}},
+    {"dikdumar_run_begin", 2, {"ticket", "list"}},
+    {"dikdumar_run_step", 1, {"ticket"}},
+    {"dikdumar_run_add", 1, {"vector"}},
 };
 
 /* A setting, and what is handed in under it. The plain calls take its part that
  * is theirs. */
 static dikdumar_bias_setting setting;
+static dikdumar_run run;
 static int32_t a[LONGEST_OPERAND], b[LONGEST_OPERAND], bias[LONGEST_OPERAND];
 static int32_t beyond_t[LONGEST_OPERAND], beyond_w[LONGEST_OPERAND];
 static uint32_t list[LONGEST_LIST], list_of_p[LONGEST_LIST];
 static uint8_t ticket[LONGEST_TICKET], bias_ticket[LONGEST_TICKET];
 static uint8_t damaged[LONGEST_TICKET], damaged_bias[LONGEST_TICKET], output[LONGEST_TICKET];
-static size_t a_length, b_length, bias_length, list_length, ticket_length, bias_ticket_length;
+static size_t a_length, b_length, bias_length, list_length, vector_length, ticket_length, bias_ticket_length;
 
 /* Takes a setting, with what passes under another. */
 static void prepare(dikdumar_bias_setting taken, dikdumar_bias_setting passes)
@@ -142,6 +150,7 @@ static void prepare(dikdumar_bias_setting taken, dikdumar_bias_setting passes)
     b_length = (size_t)plain.inner * plain.columns;
     bias_length = (size_t)plain.rows * plain.columns;
     list_length = (size_t)plain.vectors * plain.columns;
+    vector_length = plain.columns;
     written = dikdumar_write_ticket(plain, a, a_length, b, b_length, ticket, LONGEST_TICKET);
     count("a ticket to begin with", written.number == 0);
     bias_written = dikdumar_write_bias_ticket(passes, a, a_length, b, b_length, bias, bias_length, bias_ticket,
@@ -153,6 +162,14 @@ static void prepare(dikdumar_bias_setting taken, dikdumar_bias_setting passes)
     memcpy(damaged_bias, bias_ticket, LONGEST_TICKET);
     damaged[0] = damaged_bias[0] = 0;
     setting = taken;
+
+    /* Under way, at its first row, with other numbers than 0 wherever there may be any. */
+    memset(&run, UNTOUCHED, sizeof run);
+    run.setting = taken.setting;
+    run.list_length = (uint32_t)list_length;
+    for (k = 0; k < list_length; k++)
+        run.list[k] = (uint32_t)k + 1;
+    run.vector = run.row = run.caught = 0;
 }
 
 static void describe(int call, const lent *given)
@@ -205,10 +222,25 @@ static dikdumar_answer write_ticket(int call, const lent *given)
 }
 
 /* Makes a call with what its pointers lend, in their order. */
-static dikdumar_answer make(int call, const lent *given)
+static reply make(int call, const lent *given)
 {
+    const uint8_t *t = (const uint8_t *)given[0].items;
+    const uint32_t *x = (const uint32_t *)given[0].items, *y = (const uint32_t *)given[1].items;
+    reply made;
+
     describe(call, given);
-    return call == WRITER || call == BIAS_WRITER ? write_ticket(call, given) : check(call, given);
+    switch (call) {
+    case RUN_BEGIN:
+        return dikdumar_run_begin(setting.setting, t, given[0].length, y, given[1].length);
+    case RUN_STEP:
+        return dikdumar_run_step(run, t, given[0].length);
+    case RUN_ADD:
+        return dikdumar_run_add(run, x, given[0].length);
+    default:
+        memset(&made, 0, sizeof made);
+        made.answer = call == WRITER || call == BIAS_WRITER ? write_ticket(call, given) : check(call, given);
+        return made;
+    }
 }
 
 /* The pointers of a set that are NULL, in words: the first counts 1, the second
@@ -226,14 +258,16 @@ static const char *words(int call, int set)
 
 static unsigned compared[CALLS][SETS], different[CALLS][SETS];
 
-static void compare(int call, int set, dikdumar_answer with_null, dikdumar_answer expected)
+static void compare(int call, int set, reply with_null, reply expected)
 {
+    const dikdumar_answer x = expected.answer, y = with_null.answer;
+
     compared[call][set]++;
     if (!is_same(with_null, expected)) {
         different[call][set]++;
-        printf("%s: %u %u %u %u, and with NULL for %s %u %u %u %u\n", doing, (unsigned)expected.number, (unsigned)expected.place,
-               (unsigned)expected.row, (unsigned)expected.products, words(call, set), (unsigned)with_null.number,
-               (unsigned)with_null.place, (unsigned)with_null.row, (unsigned)with_null.products);
+        printf("%s: %u %u %u %u, and with NULL for %s %u %u %u %u, or another mark or state\n", doing, (unsigned)x.number,
+               (unsigned)x.place, (unsigned)x.row, (unsigned)x.products, words(call, set), (unsigned)y.number,
+               (unsigned)y.place, (unsigned)y.row, (unsigned)y.products);
     }
 }
 
@@ -255,7 +289,7 @@ static void compare_call(int call, choices *lends)
 {
     lent given[POINTERS] = {none, none, none, none}, valid[POINTERS] = {none, none, none, none};
     const int picks = 1 << (2 * CALL[call].count);
-    dikdumar_answer found;
+    reply found;
     int k, pick, set;
 
     for (pick = 0; pick < picks; pick++) {
@@ -272,8 +306,8 @@ static void compare_call(int call, choices *lends)
     }
 }
 
-/* The choices for the checks and for the writers. */
-static choices of_checks[2], of_bias_checks[2], of_writer[3], of_bias_writer[4];
+/* The choices for the checks, also by steps, for the writers and for the addition. */
+static choices of_checks[2], of_bias_checks[2], of_writer[3], of_bias_writer[4], of_addition[1];
 
 static void compare_all(void)
 {
@@ -298,6 +332,8 @@ static void compare_all(void)
            lend("good", bias, bias_length));
     choose(of_bias_writer[3], lend("short", output, bias_ticket_length - 1), lend("long", output, LONGEST_TICKET),
            lend("good", output, bias_ticket_length));
+    choose(of_addition[0], lend("short", list, vector_length - 1), lend("of p", list_of_p, vector_length),
+           lend("good", list, vector_length));
 
     compare_call(CHALLENGE, of_checks);
     compare_call(FULL, of_checks);
@@ -305,15 +341,26 @@ static void compare_all(void)
     compare_call(BIAS_CHALLENGE, of_bias_checks);
     compare_call(BIAS_FULL, of_bias_checks);
     compare_call(BIAS_WRITER, of_bias_writer);
+    compare_call(RUN_BEGIN, of_checks);
+    compare_call(RUN_STEP, of_checks);
+    compare_call(RUN_ADD, of_addition);
 }
 
-/* A call that is lent these; where it has fewer pointers, the last are not used. */
+/* A refusal by a call that is lent these; where it has fewer pointers, the last are
+ * not used. */
 static void expect(int call, lent x, lent y, lent z, lent o, uint32_t number, uint32_t place)
 {
     const lent given[POINTERS] = {x, y, z, o};
-    const dikdumar_answer expected = {number, place, 0, 0};
-    const dikdumar_answer found = make(call, given);
+    const dikdumar_answer answer = {number, place, 0, 0};
+    const reply found = make(call, given);
+    reply expected;
 
+    memset(&expected, 0, sizeof expected);
+    expected.answer = answer;
+    if (call >= RUN_BEGIN)
+        expected.mark = DIKDUMAR_REFUSED;
+    if (call > RUN_BEGIN)
+        expected.run = run;
     count(doing, is_same(found, expected));
 }
 
@@ -326,8 +373,8 @@ static void expect_all(void)
     const lent bias_beyond = lend("beyond W", beyond_w, bias_length);
     int call;
 
-    for (call = CHALLENGE; call <= BIAS_CHALLENGE; call += BIAS_CHALLENGE - CHALLENGE) {
-        choices *lends = call == CHALLENGE ? of_checks : of_bias_checks;
+    for (call = CHALLENGE; call <= RUN_BEGIN; call += BIAS_CHALLENGE - CHALLENGE) {
+        choices *lends = call == BIAS_CHALLENGE ? of_bias_checks : of_checks;
 
         expect(call, null, null, none, none, 4, 0);
         expect(call, null, good_list, none, none, 4, 0);
@@ -346,6 +393,8 @@ static void expect_all(void)
     expect(BIAS_WRITER, good_a, b_beyond, bias_beyond, null, 14, 4);
     expect(BIAS_WRITER, good_a, good_b, bias_beyond, null, 18, 8);
     expect(BIAS_WRITER, good_a, good_b, good_bias, null, 15, 0);
+    expect(RUN_STEP, null, none, none, none, 4, 0);
+    expect(RUN_ADD, null, none, none, none, 10, 0);
 }
 
 int main(void)
@@ -377,8 +426,9 @@ int main(void)
     for (r = 0; r < 5; r++) {
         prepare(refused[r], k);
         compare_all();
-        for (call = numbers[r] == 17 ? BIAS_CHALLENGE : CHALLENGE; call < CALLS; call++)
-            expect(call, null, null, null, null, numbers[r], 0);
+        for (call = 0; call < CALLS; call++)
+            if (numbers[r] != 17 || (BIAS_CHALLENGE <= call && call <= BIAS_WRITER))
+                expect(call, null, null, null, null, numbers[r], 0);
     }
 
     for (call = 0; call < CALLS; call++)

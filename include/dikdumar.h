@@ -1,13 +1,14 @@
 /*
  * The layer ticket and its checker: residue arithmetic modulo p = 2147483647
  * (a prime, 2^31 - 1), the challenge check, the full check, the ticket writer,
- * these three for bias tickets, and the quotes for both kinds.
+ * these three for bias tickets, the quotes for both kinds, and the challenge
+ * check one row at a step.
  *
  * A call cannot test this, and asks it of its caller:
  *
  * - Each pointer is valid for as many items as the length beside it says: bytes
- *   of a ticket or an output, numbers of a list or of the operands a, b and
- *   bias. NULL is taken where that length is 0.
+ *   of a ticket or an output, numbers of a list, of a vector or of the operands
+ *   a, b and bias. NULL is taken where that length is 0.
  * - A writer's output lies apart from its operands, and nothing else writes to
  *   what is lent, or reads the output, before the call returns.
  *
@@ -32,9 +33,9 @@
 
 /* The version of this interface, for a program to test. */
 #ifndef DIKDUMAR_VERSION
-#define DIKDUMAR_VERSION "2.2.0"
+#define DIKDUMAR_VERSION "2.3.0"
 #define DIKDUMAR_VERSION_MAJOR 2
-#define DIKDUMAR_VERSION_MINOR 2
+#define DIKDUMAR_VERSION_MINOR 3
 #define DIKDUMAR_VERSION_PATCH 0
 #endif
 
@@ -94,10 +95,11 @@ typedef struct {
 
 /*
  * The answer of a call; the table at each says what its numbers mean. A ticket
- * is accepted, or written, where number is 0 and only there.
+ * is accepted, or written, where number is 0 and only there; of a run only where
+ * its mark says that it is complete, too.
  */
 typedef struct {
-    uint32_t number;   /* what was found, 0 to 21 */
+    uint32_t number;   /* what was found, 0 to 22 */
     uint32_t place;    /* where, by the number; the length of a written ticket */
     uint32_t row;      /* the row that was caught, from 0, else 0 */
     uint32_t products; /* the products counted, else 0 */
@@ -424,6 +426,158 @@ dikdumar_quote dikdumar_quote_ticket(dikdumar_setting setting);
  *     v      8*(l*m + m*n + 3*l*n)    l*m*n          s*(m*n + 2*l*n + l*m)
  */
 dikdumar_quote dikdumar_quote_bias_ticket(dikdumar_bias_setting setting);
+
+/* Stepped checks */
+
+/* The marks of a run. */
+enum {
+    DIKDUMAR_UNDER_WAY = 0, /* there is a next row */
+    DIKDUMAR_CAUGHT = 1,    /* the two sides of a row differ, so the ticket is false */
+    DIKDUMAR_COMPLETE = 2,  /* every row of every vector is made */
+    DIKDUMAR_REFUSED = 3    /* a test fails: the answer has its number */
+};
+
+/*
+ * The state of a run, which is a challenge check of a plain ticket that makes one
+ * row at a step, and to which vectors can be added meanwhile. The caller keeps
+ * it: it is handed in by value, and what the call makes of it is handed back.
+ *
+ * Any numbers may stand in it, whoever made them, and each call answers to them
+ * as its rules say. Below, t stands for its vector.
+ */
+typedef struct {
+    dikdumar_setting setting; /* l, m, n, s, a, T, v and o; an addition raises s */
+    uint32_t list[256];       /* the vectors one after another */
+    uint32_t list_length;     /* how many numbers of it are the list; 10 where not s*n, so above 256 too */
+    uint32_t vector;          /* t, the next vector, from 0 */
+    uint32_t row;             /* the next row, from 0 */
+    uint32_t u[64];           /* B times vector t, from that vector's first row on: m numbers */
+    uint32_t caught;          /* 0: not caught; any other number: caught in vector, row */
+} dikdumar_run;
+
+/*
+ * What a call makes of a run. The mark says how to read the answer:
+ *
+ *     mark        number  place   row       products
+ *     under way      0    next t  next row  t*(m*n + l*n + l*m) + row*(n + m),
+ *                                           and m*n more where row is not 0
+ *     caught        12    t       row       t*(m*n + l*n + l*m) + m*n + (row + 1)*(n + m)
+ *     complete       0    0       0         s*(m*n + l*n + l*m)
+ *     refused      others, with their places; row and products are 0
+ *
+ * Number 0 under way accepts nothing yet. The numbers are worked out from t and
+ * row, whoever made the state. One whose t is s or more, or whose row is l or
+ * more, is complete, also where it says that it is caught.
+ *
+ * A run ends where it is caught or complete. If each state was handed in as the
+ * run last handed it back, and the same ticket was lent throughout, the answer
+ * that ends it is that of dikdumar_challenge_check to the ticket with the final
+ * list, s being its count of vectors. Of a run in which another ticket was lent
+ * in between, no more is promised than what each step does by itself.
+ */
+typedef struct {
+    dikdumar_run run;       /* the state handed back */
+    uint32_t mark;          /* DIKDUMAR_UNDER_WAY, _CAUGHT, _COMPLETE or _REFUSED */
+    dikdumar_answer answer; /* as the mark says */
+} dikdumar_run_answer;
+
+/*
+ * Begins a run with the vectors of a list, and makes no row.
+ *
+ * The ticket and the list are those of dikdumar_challenge_check, and are tested
+ * as there. The state handed back holds the setting, the list with zeros after
+ * it and its length, and 0 in every other number.
+ *
+ *     number  meaning                                    place
+ *        0    under way                                  0
+ *        1    l, m, n or s outside its limits            0
+ *        2    a, T or v outside its limits               0
+ *        3    the setting does not fit                   0
+ *        4    ticket's length not 8*(l*m + m*n + 2*l*n)  0
+ *        5    kind, zero byte, row or column unexpected  record
+ *        6    value of p or more                         record
+ *        7    entry of A or B below -T or above T        record
+ *        8    quotient not from -2^(v-1) to 2^(v-1) - 1  record
+ *        9    remainder of a or more                     record
+ *       10    list's length not s*n                      0
+ *       11    list number of p or more                   index in the list
+ *       19    o not below a                              0
+ *       21    a vector of zeros                          vector t
+ *
+ * The first test that fails decides: 1, 2, 19, 3 and 4, then record after record
+ * each by 5, 6 and its own range, then 10, 11 and 21. Row and products are 0. The
+ * mark is DIKDUMAR_UNDER_WAY, or DIKDUMAR_REFUSED, and then every number of the
+ * state handed back is 0.
+ */
+dikdumar_run_answer dikdumar_run_begin(dikdumar_setting setting,
+                                       const uint8_t *ticket, size_t ticket_length,
+                                       const uint32_t *list, size_t list_length);
+
+/*
+ * Makes the next row of a run.
+ *
+ * The ticket that is lent and the state's setting and list are tested first, as
+ * by dikdumar_challenge_check, at every step. Then a run that is caught or
+ * complete gives its answer again. Else both sides of the row are compared for
+ * vector t. In row 0, B times the vector is worked out from the ticket lent; in
+ * the rows after it the state's u is taken, each number of it modulo p.
+ *
+ *     number  meaning                                    place
+ *        0    under way, or complete                     next t, or 0
+ *        1    l, m, n or s outside its limits            0
+ *        2    a, T or v outside its limits               0
+ *        3    the setting does not fit                   0
+ *        4    ticket's length not 8*(l*m + m*n + 2*l*n)  0
+ *        5    kind, zero byte, row or column unexpected  record
+ *        6    value of p or more                         record
+ *        7    entry of A or B below -T or above T        record
+ *        8    quotient not from -2^(v-1) to 2^(v-1) - 1  record
+ *        9    remainder of a or more                     record
+ *       10    list's length not s*n                      0
+ *       11    list number of p or more                   index in the list
+ *       12    caught: the two sides of a row differ      vector t
+ *       19    o not below a                              0
+ *       21    a vector of zeros                          vector t
+ *
+ * The first test that fails decides: 1, 2, 19, 3 and 4, then record after record
+ * each by 5, 6 and its own range, then 10, 11 and 21. A refusal hands the state
+ * back as it came, and so does a run that is caught or complete. Where a row is
+ * made, this changes and nothing else:
+ *
+ *     u       in row 0 its first m numbers, which become B times the vector
+ *     caught  becomes 1 where the sides differ; vector and row stay
+ *     row     goes up by one where the sides are equal, and from the last to 0
+ *     vector  goes up by one with that
+ *
+ * After the last row of the last vector the run is complete at once.
+ */
+dikdumar_run_answer dikdumar_run_step(dikdumar_run run, const uint8_t *ticket, size_t ticket_length);
+
+/*
+ * Adds one vector at the end of a run's list, and makes no row.
+ *
+ * The vector holds n least residues, not all of them 0. It is tested as what
+ * comes after the state's list, and places are counted in the list with it. No
+ * ticket is lent.
+ *
+ *     number  meaning                                                place
+ *        0    under way                                              next t
+ *        1    l, m, n or s outside its limits                        0
+ *        2    a, T or v outside its limits                           0
+ *        3    the setting does not fit                               0
+ *       10    list's length not s*n, or the vector's not n           0
+ *       11    list number of p or more                               index in the list
+ *       19    o not below a                                          0
+ *       21    a vector of zeros                                      vector t
+ *       22    the run is caught or complete, or holds eight vectors  0
+ *
+ * The first test that fails decides: 1, 2, 19 and 3, then 10, 11 and 21 of the
+ * state's list, then 10, 11 and 21 of the vector, then 22. The mark is
+ * DIKDUMAR_UNDER_WAY, or DIKDUMAR_REFUSED, and then the state is handed back as
+ * it came. Where the vector is added, it stands after the list, list_length goes
+ * up by n and s by one, and nothing else changes.
+ */
+dikdumar_run_answer dikdumar_run_add(dikdumar_run run, const uint32_t *vector, size_t vector_length);
 
 #ifdef __cplusplus
 }

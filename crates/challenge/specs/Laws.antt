@@ -7,6 +7,7 @@
 --   Sides      the two sides of a row
 --   Vectors    all vectors of a list
 --   Checks     the whole check (C1)
+--   Single     one row by itself
 --   Kinds      the check without a bias, and with one (B3)
 --   Rounding   the check with the rounding number 0 (O3)
 pub mod Lists
@@ -16,5 +17,6 @@ pub mod Rows
 pub mod Sides
 pub mod Vectors
 pub mod Checks
+pub mod Single
 pub mod Kinds
 pub mod Rounding

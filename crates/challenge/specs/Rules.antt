@@ -1,5 +1,5 @@
--- The challenge check, Freivalds' check on ticket bytes (tests 10 to 12 and 21): the rules. They are all that a reader has to believe
--- beside those of the crates below; nothing is proved here. G is a setting, t the bytes of a ticket, x a challenge list.
+-- The challenge check, Freivalds' check on ticket bytes (tests 10 to 12 and 21), and one row of it by itself: the rules. They are all that a
+-- reader has to believe beside those of the crates below; nothing is proved here. G is a setting, t the bytes of a ticket, x a challenge list.
 --
 --   challengeAt G x τ j    number j of vector τ
 --   listNumber x k         11 where number k of the list is not a least residue, else 0
@@ -7,10 +7,13 @@
 --   vectorNumber G x τ     21 where every number of vector τ is 0, else 0
 --   listReading G x        the answer of the tests 10, 11 and 21, in this order; its number is 0 where the list is well formed
 --   WellFormed G x         it is
+--   testing G t x          the answer of the ordinary tests: those of setting and ticket, then those of the list
 --   productB G t x τ k     number k of the product u of B and vector τ, modulo p
 --   claimSide G t x τ i    row i of the claims times vector τ, modulo p
---   operandSide G t x τ i  row i of A times u and row i of the bias times vector τ, modulo p
---   balanced G t x τ i     the two sides are equal
+--   operandSideBy G t x τ u i   row i of A times the numbers u and row i of the bias times vector τ, modulo p
+--   operandSide G t x τ i  that, with the product u of B and vector τ
+--   balancedBy G t x τ u i   the two sides are equal, with the numbers u
+--   balanced G t x τ i     they are, with that product
 --   firstRow G t x τ       the first row that is not balanced for vector τ, the number of rows where there is none
 --   rowProducts G          how many products a row takes: those with its bias, its claims and its entries of A
 --   vectorProducts G       how many products a whole vector takes
@@ -20,18 +23,26 @@
 --   verdict G t x          the answer of test 12: caught at the first vector that has a row that is not balanced
 --   challengeCheck G t x   the answer of the challenge check
 --   Accepted G t x         its number is 0
+--   listed n f             the list of f 0 to f (n - 1)
+--   productAt G t x τ i u  u, of which at row 0 the first numbers are made anew: the product of B and vector τ
+--   balancedAt G t x τ i u   row i of vector τ is balanced, with the numbers of u modulo p
+--   rowThere G τ i         there is a vector τ and a row i
+--   rowMade G t x τ i u    what row i of vector τ comes to, with u as it is at that row
+--   noRow a u              where no row is made: none is out of balance, and u stays
+--   rowCheck G t x τ i u   the ordinary tests, and the row, where they pass and it is there
 --   DifferIn G j x y       the lists x and y differ in one column only, j
-use Prim.Native.Nat.{ℕ, _+_, _*_, _<_}
+use Prim.Native.Nat.{ℕ, zero, suc, _+_, _*_, _%_, _<_}
 use mathlib.Core.Path.{_≡_}
-use mathlib.Core.Bool.{Bool}
-use mathlib.Core.List.{List}
+use mathlib.Core.Bool.{Bool, true, cond, _&&_}
+use mathlib.Core.List.{List, [], _∷_, _++_}
 use lib.Dec.{ltb, eqb}
-use lib.ListN.{length, getD}
+use lib.ListN.{length, getD, drop}
 use lib.IntN.{pos, _+ℤ_, _*ℤ_}
 use Rattle.residue.specs.Rules.{modulus, leastResidue}
 use Rattle.algebra.specs.Rules.{sumℤ}
 use Rattle.ticket.specs.declared.setting.Setting.{Setting}
 use Rattle.ticket.specs.declared.Answer.{Answer}
+use Rattle.challenge.specs.declared.single.RowAnswer.{RowAnswer}
 use Rattle.ticket.specs.Rules.{first, unless, answer, refusal, scan, firstRefusal, after, reading, biasColumns, entryA, entryB, entryBias, claim}
 
 -- the list
@@ -56,6 +67,9 @@ listReading G x =
 abbrev pub WellFormed : Setting → List ℕ → Type 0
 WellFormed G x = listReading G x .number ≡ 0
 
+abbrev pub testing : Setting → List ℕ → List ℕ → Answer
+testing G t x = after (reading G t) (listReading G x)
+
 -- the two sides of a row
 
 unfoldable pub productB : Setting → List ℕ → List ℕ → ℕ → ℕ → ℕ
@@ -64,14 +78,20 @@ productB G t x τ k = leastResidue modulus (sumℤ (G .columns) (λ j. entryB G 
 unfoldable pub claimSide : Setting → List ℕ → List ℕ → ℕ → ℕ → ℕ
 claimSide G t x τ i = leastResidue modulus (sumℤ (G .columns) (λ j. claim G t i j *ℤ pos (challengeAt G x τ j)))
 
-unfoldable pub operandSide : Setting → List ℕ → List ℕ → ℕ → ℕ → ℕ
-operandSide G t x τ i =
+unfoldable pub operandSideBy : Setting → List ℕ → List ℕ → ℕ → (ℕ → ℕ) → ℕ → ℕ
+operandSideBy G t x τ u i =
     leastResidue modulus
-    (sumℤ (G .inner) (λ k. entryA G t i k *ℤ pos (productB G t x τ k))
+    (sumℤ (G .inner) (λ k. entryA G t i k *ℤ pos (u k))
     +ℤ sumℤ (G .columns) (λ j. entryBias G t i j *ℤ pos (challengeAt G x τ j)))
 
-unfoldable pub balanced : Setting → List ℕ → List ℕ → ℕ → ℕ → Bool
-balanced G t x τ i = eqb (claimSide G t x τ i) (operandSide G t x τ i)
+abbrev pub operandSide : Setting → List ℕ → List ℕ → ℕ → ℕ → ℕ
+operandSide G t x τ i = operandSideBy G t x τ (productB G t x τ) i
+
+unfoldable pub balancedBy : Setting → List ℕ → List ℕ → ℕ → (ℕ → ℕ) → ℕ → Bool
+balancedBy G t x τ u i = eqb (claimSide G t x τ i) (operandSideBy G t x τ u i)
+
+abbrev pub balanced : Setting → List ℕ → List ℕ → ℕ → ℕ → Bool
+balanced G t x τ i = balancedBy G t x τ (productB G t x τ) i
 
 -- the answer
 
@@ -105,6 +125,31 @@ challengeCheck G t x = after (reading G t) (after (listReading G x) (verdict G t
 
 abbrev pub Accepted : Setting → List ℕ → List ℕ → Type 0
 Accepted G t x = challengeCheck G t x .number ≡ 0
+
+-- one row by itself
+
+unfoldable pub listed : ℕ → (ℕ → ℕ) → List ℕ
+listed zero f = []
+listed (suc n) f = listed n f ++ (f n ∷ [])
+
+unfoldable pub productAt : Setting → List ℕ → List ℕ → ℕ → ℕ → List ℕ → List ℕ
+productAt G t x τ i u = cond (eqb i 0) (listed (G .inner) (productB G t x τ) ++ drop (G .inner) u) u
+
+unfoldable pub balancedAt : Setting → List ℕ → List ℕ → ℕ → ℕ → List ℕ → Bool
+balancedAt G t x τ i u = balancedBy G t x τ (λ k. getD (productAt G t x τ i u) k 0 % modulus) i
+
+abbrev pub rowThere : Setting → ℕ → ℕ → Bool
+rowThere G τ i = ltb τ (G .vectors) && ltb i (G .rows)
+
+abbrev pub rowMade : Setting → List ℕ → List ℕ → ℕ → ℕ → List ℕ → RowAnswer
+rowMade G t x τ i u = record { tested = refusal 0 0; balanced = balancedAt G t x τ i u; u = productAt G t x τ i u }
+
+abbrev pub noRow : Answer → List ℕ → RowAnswer
+noRow tested u = record { tested = tested; balanced = true; u = u }
+
+unfoldable pub rowCheck : Setting → List ℕ → List ℕ → ℕ → ℕ → List ℕ → RowAnswer
+rowCheck G t x τ i u =
+    cond (eqb (testing G t x .number) 0 && rowThere G τ i) (rowMade G t x τ i u) (noRow (testing G t x) u)
 
 -- both are lists of s · n numbers; column j differs for at least one vector, and every other column is equal
 pub record DifferIn (G : Setting) (j : ℕ) (x y : List ℕ) : Type 0 where

@@ -24,9 +24,9 @@ use ticket::PartNumber;
 use ticket::Setting;
 
 // The most numbers of a vector, and of its product with B.
-const COLUMNS: usize = Setting::MOST_COLUMNS as usize;
+pub(crate) const COLUMNS: usize = Setting::MOST_COLUMNS as usize;
 
-const INNER: usize = Setting::MOST_INNER as usize;
+pub(crate) const INNER: usize = Setting::MOST_INNER as usize;
 
 // The check of a ticket that passes its own tests: those of the list, then all rows for all vectors of it. A and the claims are decoded
 // once for all vectors, A to the beginning of the room and the claims to what is left of it.
@@ -176,7 +176,7 @@ fn check_rows(
 // One row, of A in a and of the claims in w, against vector number t, x, and its product u with B: caught, where the two sides differ.
 // The shift of the claims is taken off by left, that of the entries by right. The row of the bias, read as records, times z is added to
 // the row of A times u. The products made so far are handed in, and go out in the answer with those of this row.
-fn check_row(
+pub(crate) fn check_row(
     a: &[u32],
     w: &[u32],
     bias: &[u8],

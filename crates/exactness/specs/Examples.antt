@@ -12,7 +12,7 @@ use Rattle.ticket.specs.declared.published.PlainSetting.{PlainSetting}
 use Rattle.ticket.specs.declared.Answer.{Answer}
 use Rattle.ticket.specs.Rules.{first, answer, scan, after, firstFailed, sizesWithin, scaleAndBoundWithin, numbersWithin, fitsWidth, limitTests, settingTests, settingNumber, isEntry, shiftedQuotient, parts, part, count, start, records, recordBytes, ticketLength, holder, valueAt, formed, partTests, recordTests, firstRefusal, recordsReading, reading, valueIn, entryA, entryB, quotient, remainder, claim, exactSum, biasedSum, due, plain, withBias, hasBias, biasBound, biasColumns, biasWithin, roundingWithin, mostBiasBound, entryBias, dividend}
 use Rattle.ticket.specs.Examples.{trueTicket, biasTicket, roundedTicket}
-use Rattle.challenge.specs.Rules.{listNumber, firstNonzero, vectorNumber, listReading, productB, claimSide, operandSide, balanced, firstRow, verdict, challengeCheck}
+use Rattle.challenge.specs.Rules.{listNumber, firstNonzero, vectorNumber, listReading, productB, claimSide, operandSide, operandSideBy, balancedBy, firstRow, verdict, challengeCheck}
 use Rattle.full.specs.Rules.{same, holds, fullVerdict, fullCheck}
 use Rattle.quote.specs.declared.Quote.{Quote}
 use Rattle.quote.specs.Rules.{smallestWidth, quoteTests, noFigures, quoteOf}
@@ -357,7 +357,7 @@ unfolding modulus leastResidue signedEntry sumℤ matrixProduct floorDivision fi
     numbersWithin fitsWidth limitTests settingTests isEntry shiftedQuotient parts part count start records ticketLength holder valueAt
     formed partTests recordTests firstRefusal recordsReading reading valueIn entryA entryB quotient remainder claim exactSum biasedSum
     hasBias biasBound biasColumns biasWithin roundingWithin entryBias listNumber firstNonzero vectorNumber listReading productB
-    claimSide operandSide balanced firstRow verdict challengeCheck same holds fullVerdict fullCheck joined beyondNumber operandsReading
+    claimSide operandSideBy balancedBy firstRow verdict challengeCheck same holds fullVerdict fullCheck joined beyondNumber operandsReading
     writing quotientOf remainderOf integersOf integerIn recordOf ticketRecord ticketOf minus recordsFrom ticket numbers setting biased
     rounded both sized under claiming biasedBy biasOf biasCase falseBias trueRemainders trueCase changed roundedBy roundedBias
     unrounded withSeveral severalBiased oneColumn trueTicket biasTicket roundedTicket smallestWidth quoteTests quoteOf figured examples

@@ -9,7 +9,7 @@ use Rattle.algebra.specs.Rules.{sumℤ}
 use Rattle.ticket.specs.declared.Answer.{Answer}
 use Rattle.ticket.specs.Rules.{answer, first, scan, after, firstFailed, sizesWithin, scaleAndBoundWithin, numbersWithin, fitsWidth, limitTests, settingTests, isEntry, shiftedQuotient, parts, part, count, start, records, ticketLength, holder, valueAt, formed, partTests, recordTests, firstRefusal, recordsReading, reading, valueIn, entryA, entryB, quotient, remainder, claim, hasBias, biasBound, biasColumns, biasWithin, roundingWithin, entryBias}
 use Rattle.ticket.specs.Examples.{trueTicket, roundedTicket}
-use Rattle.challenge.specs.Rules.{listNumber, firstNonzero, vectorNumber, listReading, productB, claimSide, operandSide, balanced, firstRow, verdict, challengeCheck}
+use Rattle.challenge.specs.Rules.{listNumber, firstNonzero, vectorNumber, listReading, productB, claimSide, operandSideBy, balancedBy, firstRow, verdict, challengeCheck}
 use Rattle.files.specs.Rules.{wordAt, settingOf, numbersOf, fileCheck, digitsOf, decimal, field, lineOf}
 
 -- ℓ = m = n = 2, s = 1, α = 10, T = 8, v = 5, and o, of one byte
@@ -78,7 +78,7 @@ examples-hold : map by-rules examples ≡ examples
 unfolding modulus leastResidue signedEntry sumℤ first scan after firstFailed sizesWithin scaleAndBoundWithin numbersWithin fitsWidth
     limitTests settingTests isEntry shiftedQuotient parts part count start records ticketLength holder valueAt formed partTests
     recordTests firstRefusal recordsReading reading valueIn entryA entryB quotient remainder claim hasBias biasBound biasColumns
-    biasWithin roundingWithin entryBias listNumber firstNonzero vectorNumber listReading productB claimSide operandSide balanced
+    biasWithin roundingWithin entryBias listNumber firstNonzero vectorNumber listReading productB claimSide operandSideBy balancedBy
     firstRow verdict challengeCheck wordAt settingOf numbersOf fileCheck digitsOf decimal field lineOf rounded setting trueTicket
     roundedTicket challenge examples by-rules
 examples-hold = refl

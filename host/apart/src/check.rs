@@ -1,5 +1,7 @@
 //! "The challenge check".
 
+use std::ops::Range;
+
 use crate::answer::Refusal;
 use crate::matrix::product;
 use crate::setting::Terms;
@@ -27,23 +29,37 @@ fn decide(terms: &Terms, ticket: &[u8], list: &[u32]) -> Result<Answer, Refusal>
 }
 
 /// "The list holds s vectors of n least residues, the vectors one after
-/// another." The tests 10, 11 and 21, in this order: "A vector all of whose
-/// numbers are zero is no challenge and is to be turned away."
+/// another."
 pub(crate) fn read_list(setting: &Setting, list: &[u32]) -> Result<Vec<Vec<i128>>, Refusal> {
-    // Both are small here.
-    let count = (setting.vectors * setting.columns) as usize;
-    if list.len() != count {
+    read_vectors(setting, 0..setting.vectors, list)
+}
+
+/// The vectors whose t are these, from their numbers alone. The tests 10, 11 and
+/// 21, in this order: "A vector all of whose numbers are zero is no challenge and
+/// is to be turned away." Places are those of the list that holds these vectors
+/// behind the ones of a lower t.
+pub(crate) fn read_vectors(
+    setting: &Setting,
+    Range { start, end }: Range<u32>,
+    numbers: &[u32],
+) -> Result<Vec<Vec<i128>>, Refusal> {
+    // All are small here.
+    let [start, end, columns] = [start, end, setting.columns].map(|number| number as usize);
+    if numbers.len() != (end - start) * columns {
         return Err(Refusal { number: 10, place: 0 });
     }
-    let numbers: Vec<i128> = list.iter().copied().map(i128::from).collect();
-    if let Some(place) = numbers.iter().position(|&number| number >= P) {
+    let numbers: Vec<i128> = numbers.iter().copied().map(i128::from).collect();
+    if let Some(index) = numbers.iter().position(|&number| number >= P) {
+        let place = start * columns + index;
         return Err(Refusal { number: 11, place });
     }
-    let columns = setting.columns as usize;
     let vectors: Vec<Vec<i128>> = numbers.chunks(columns).map(<[i128]>::to_vec).collect();
     // "It refuses the first such vector as 21 with its t"
     match vectors.iter().position(|x| x.iter().all(|&number| number == 0)) {
-        Some(place) => Err(Refusal { number: 21, place }),
+        Some(index) => {
+            let place = start + index;
+            Err(Refusal { number: 21, place })
+        }
         None => Ok(vectors),
     }
 }
@@ -56,29 +72,28 @@ pub(crate) fn challenge(terms: &Terms, ticket: &Ticket, vectors: &[Vec<i128>]) -
     vectors
         .iter()
         .enumerate()
-        .find_map(|(t, x)| first_unequal(ticket, x).map(|i| caught(terms, t as u32, i as u32)))
+        .find_map(|(t, x)| first_unequal(terms, ticket, x).map(|i| caught(terms, t as u32, i)))
         .unwrap_or_else(|| accepted(terms))
 }
 
-/// The first row whose two sides are unequal for X. For a bias ticket, "the
-/// row's bias entries with X; their sum is added to the row of A times u"; for a
-/// plain one that sum is 0.
-fn first_unequal(ticket: &Ticket, x: &[i128]) -> Option<usize> {
+/// The first row whose two sides are unequal for X.
+fn first_unequal(terms: &Terms, ticket: &Ticket, x: &[i128]) -> Option<u32> {
     let u = ticket.b.times(x);
-    ticket
-        .claims
-        .rows()
-        .zip(ticket.a.rows().zip(ticket.bias.rows()))
-        .position(|(claims, (entries, bias))| {
-            let sum = product(entries, &u) + product(bias, x);
-            product(claims, x) != least_residue(sum)
-        })
+    (0..terms.setting.rows).find(|&i| is_unequal(ticket, i, x, &u))
+}
+
+/// Whether the two sides of row i are unequal for X and u. For a bias ticket,
+/// "the row's bias entries with X; their sum is added to the row of A times u";
+/// for a plain one that sum is 0.
+pub(crate) fn is_unequal(ticket: &Ticket, i: u32, x: &[i128], u: &[i128]) -> bool {
+    let sum = product(ticket.a.row(i), u) + product(ticket.bias.row(i), x);
+    product(ticket.claims.row(i), x) != least_residue(sum)
 }
 
 /// The products of one row: n "with X" and m of "the row of A times u"; for a
 /// bias ticket "Each row of the challenge check makes n further products". The
 /// sizes are within their limits here, so no count comes near the end of `u32`.
-fn products_of_a_row(terms: &Terms) -> u32 {
+pub(crate) fn products_of_a_row(terms: &Terms) -> u32 {
     let Setting { inner, columns, .. } = terms.setting;
     match terms.bias_bound {
         Some(_) => 2 * columns + inner,
@@ -88,7 +103,7 @@ fn products_of_a_row(terms: &Terms) -> u32 {
 
 /// The products of one vector with all its rows, mn + ℓn + ℓm, or mn + 2ℓn + ℓm
 /// for a bias ticket.
-fn products_of_a_vector(terms: &Terms) -> u32 {
+pub(crate) fn products_of_a_vector(terms: &Terms) -> u32 {
     let Setting {
         rows, inner, columns, ..
     } = terms.setting;
@@ -102,7 +117,7 @@ pub(crate) fn products_of_all(terms: &Terms) -> u32 {
 }
 
 /// "Accepted: 0, 0, 0, s(mn + ℓn + ℓm)."
-fn accepted(terms: &Terms) -> Answer {
+pub(crate) fn accepted(terms: &Terms) -> Answer {
     Answer {
         number: 0,
         place: 0,
@@ -113,7 +128,7 @@ fn accepted(terms: &Terms) -> Answer {
 
 /// "Caught in vector t, row i: products are t(mn + ℓn + ℓm) + mn + (i + 1)(n +
 /// m)." A bias ticket has its own products of a vector and of a row.
-fn caught(terms: &Terms, t: u32, i: u32) -> Answer {
+pub(crate) fn caught(terms: &Terms, t: u32, i: u32) -> Answer {
     let Setting { inner, columns, .. } = terms.setting;
     Answer {
         number: 12,

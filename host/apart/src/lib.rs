@@ -3,13 +3,15 @@
 //! the challenge check, the full check, the writer and the program in a module
 //! each, and, for those who test them, the making of tickets, true and false, and
 //! what the marked examples share. Of the paper of change requests the first
-//! five are followed. "Bias from the autumn model": both checks and the writer
+//! six are followed. "Bias from the autumn model": both checks and the writer
 //! have a call for bias tickets beside the plain one, and the rules that are the
 //! same are written once. "Rounding to the nearest": the setting has a rounding
 //! number o, and every call goes by it. "Quoting for a layer before it is built":
 //! the quote, for plain and for bias tickets, in a module of its own. "The power
 //! table goes": a power of two is worked out by its formula. "A vector of zeros":
-//! the challenge check refuses a list that holds one, in the program too.
+//! the challenge check refuses a list that holds one, in the program too. "Further
+//! vectors during a check": begin, step and addition of a run, in a module of
+//! their own, over the rules of the challenge check.
 //!
 //! Everything is exact integer arithmetic in `i128`. Every residue goes through
 //! one definition of the least residue. Every function takes every input,
@@ -27,6 +29,7 @@ pub mod make;
 mod matrix;
 pub mod program;
 mod quote;
+mod run;
 mod setting;
 mod ticket;
 mod writer;
@@ -36,6 +39,7 @@ pub use check::{bias_challenge_check, challenge_check};
 pub use full::{bias_full_check, full_check};
 pub use make::{true_bias_ticket, true_ticket};
 pub use quote::{quote_bias_ticket, quote_ticket, Quote};
+pub use run::{run_add, run_begin, run_step, Mark, Run, RunAnswer};
 pub use setting::{BiasSetting, Setting};
 pub use writer::{write_bias_ticket, write_ticket};
 

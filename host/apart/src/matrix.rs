@@ -23,6 +23,12 @@ impl Matrix {
         self.entries[i as usize * self.columns + j as usize]
     }
 
+    /// The row i.
+    pub(crate) fn row(&self, i: u32) -> &[i128] {
+        let start = i as usize * self.columns;
+        &self.entries[start..start + self.columns]
+    }
+
     pub(crate) fn rows(&self) -> impl Iterator<Item = &[i128]> {
         self.entries.chunks(self.columns)
     }

@@ -1,13 +1,13 @@
 //! The cases: a call of a check or of a writer with what is handed to it, the
 //! reply of both sides, and the reply that the rules state.
 
-use apart::Answer;
+use apart::{Answer, Mark};
 
 use crate::parts::ticket_length;
 use crate::setting::{Form, Setting, Taken};
 
-/// The calls that are compared on families: those that cases are made for, and the
-/// quotes.
+/// The calls that are compared on families: those that cases are made for, the
+/// quotes, and those of runs.
 #[derive(Clone, Copy, Debug, PartialEq, Eq)]
 pub enum Kind {
     Challenge,
@@ -18,10 +18,13 @@ pub enum Kind {
     BiasWriter,
     Quote,
     BiasQuote,
+    RunBegin,
+    RunStep,
+    RunAdd,
 }
 
 impl Kind {
-    pub const ALL: [Kind; 8] = [
+    pub const ALL: [Kind; 11] = [
         Kind::Challenge,
         Kind::Full,
         Kind::Writer,
@@ -30,6 +33,9 @@ impl Kind {
         Kind::BiasWriter,
         Kind::Quote,
         Kind::BiasQuote,
+        Kind::RunBegin,
+        Kind::RunStep,
+        Kind::RunAdd,
     ];
 
     pub fn name(self) -> &'static str {
@@ -42,6 +48,9 @@ impl Kind {
             Kind::BiasWriter => "bias writer",
             Kind::Quote => "quote",
             Kind::BiasQuote => "bias quote",
+            Kind::RunBegin => "run begin",
+            Kind::RunStep => "run step",
+            Kind::RunAdd => "run addition",
         }
     }
 
@@ -56,7 +65,28 @@ impl Kind {
             Kind::BiasWriter => &[0, 1, 2, 3, 13, 14, 15, 17, 18, 19],
             Kind::Quote => &[0, 1, 2, 19, 20],
             Kind::BiasQuote => &[0, 1, 2, 17, 19, 20],
+            Kind::RunBegin => &[0, 1, 2, 3, 4, 5, 6, 7, 8, 9, 10, 11, 19, 21],
+            Kind::RunStep => &[0, 1, 2, 3, 4, 5, 6, 7, 8, 9, 10, 11, 12, 19, 21],
+            Kind::RunAdd => &[0, 1, 2, 3, 10, 11, 19, 21, 22],
         }
+    }
+
+    /// The marks that the call answers with, where it is one of a run.
+    pub fn marks(self) -> &'static [Mark] {
+        match self {
+            Kind::RunStep => &[Mark::UnderWay, Mark::Caught, Mark::Complete, Mark::Refused],
+            Kind::RunBegin | Kind::RunAdd => &[Mark::UnderWay, Mark::Refused],
+            _ => &[],
+        }
+    }
+}
+
+pub fn mark_name(mark: Mark) -> &'static str {
+    match mark {
+        Mark::UnderWay => "under way",
+        Mark::Caught => "caught",
+        Mark::Complete => "complete",
+        Mark::Refused => "refused",
     }
 }
 

@@ -2,20 +2,21 @@
 
 use std::fmt::{self, Display, Formatter};
 
-use apart::Answer;
+use apart::{Answer, Mark};
 use digests::{Digest, Digests};
 
 use crate::cases::{Call, Case, Family, Kind, Reply, Side, Visitor, GUARD};
 use crate::outcome::{agreed, Report};
 use crate::setting::Form;
 
-/// How often the library answered, and how often with each number from 0 to 21, for
-/// each call in the order of `Kind::ALL`. Any other number is a difference, and so
-/// is not counted by itself.
+/// How often the library answered, and how often with each number from 0 to 22 and with
+/// each mark, for each call in the order of `Kind::ALL`. Any other number is a
+/// difference, and so is not counted by itself.
 #[derive(Clone, Debug, Default, PartialEq, Eq)]
 pub struct Numbers {
     cases: [u64; Kind::ALL.len()],
-    numbers: [[u64; 22]; Kind::ALL.len()],
+    numbers: [[u64; 23]; Kind::ALL.len()],
+    marks: [[u64; 4]; Kind::ALL.len()],
 }
 
 impl Numbers {
@@ -26,6 +27,10 @@ impl Numbers {
         }
     }
 
+    pub fn count_mark(&mut self, kind: Kind, mark: Mark) {
+        self.marks[kind as usize][mark as usize] += 1;
+    }
+
     pub fn cases(&self, kind: Kind) -> u64 {
         self.cases[kind as usize]
     }
@@ -34,10 +39,15 @@ impl Numbers {
         self.numbers[kind as usize][number as usize]
     }
 
+    pub fn of_mark(&self, kind: Kind, mark: Mark) -> u64 {
+        self.marks[kind as usize][mark as usize]
+    }
+
     pub fn add(&mut self, others: &Numbers) {
         let totals = self.cases.iter_mut().chain(self.numbers.iter_mut().flatten());
         let counts = others.cases.iter().chain(others.numbers.iter().flatten());
-        for (total, count) in totals.zip(counts) {
+        let marks = self.marks.iter_mut().flatten().zip(others.marks.iter().flatten());
+        for (total, count) in totals.zip(counts).chain(marks) {
             *total += count;
         }
     }
@@ -81,7 +91,7 @@ pub fn compare(family: &Family, library: Side, apart: Side) -> Outcome {
 }
 
 impl Outcome {
-    /// The report on a family of this name, of cases or of quotes.
+    /// The report on a family of this name, of cases, of quotes or of calls of runs.
     pub fn report(&self, name: &str, items: &str, digests: &mut Digests) -> Report {
         let (compared, digest) = (self.compared, self.digest);
         let on_file = digests.take(name, compared, digest);
@@ -518,25 +528,35 @@ mod tests {
         let mut numbers = Numbers::default();
         numbers.count(Kind::Full, 16);
         numbers.count(Kind::Writer, 0);
-        numbers.count(Kind::Writer, 22);
+        numbers.count(Kind::Writer, 23);
         numbers.count(Kind::Writer, u32::MAX);
         numbers.count(Kind::BiasWriter, 19);
         numbers.count(Kind::BiasQuote, 20);
         numbers.count(Kind::Challenge, 21);
+        numbers.count(Kind::RunAdd, 22);
+        numbers.count_mark(Kind::RunAdd, Mark::Refused);
+        numbers.count_mark(Kind::RunStep, Mark::Caught);
         let mut twice = numbers.clone();
         twice.add(&numbers);
-        assert_eq!(Kind::ALL.map(|kind| twice.cases(kind)), [2, 2, 6, 0, 0, 2, 0, 2]);
+        let cases = Kind::ALL.map(|kind| twice.cases(kind));
+        assert_eq!(cases, [2, 2, 6, 0, 0, 2, 0, 2, 0, 0, 2]);
         let all = [
             (Kind::Full, 16),
             (Kind::Writer, 0),
             (Kind::BiasWriter, 19),
             (Kind::BiasQuote, 20),
             (Kind::Challenge, 21),
+            (Kind::RunAdd, 22),
         ];
+        let marks = [(Kind::RunAdd, Mark::Refused), (Kind::RunStep, Mark::Caught)];
         for kind in Kind::ALL {
-            for number in 0..=21 {
+            for number in 0..=22 {
                 let counted = all.contains(&(kind, number));
                 assert_eq!(twice.of(kind, number), if counted { 2 } else { 0 });
+            }
+            for mark in [Mark::UnderWay, Mark::Caught, Mark::Complete, Mark::Refused] {
+                let counted = marks.contains(&(kind, mark));
+                assert_eq!(twice.of_mark(kind, mark), if counted { 2 } else { 0 });
             }
         }
     }

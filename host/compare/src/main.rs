@@ -2,9 +2,10 @@
 //! apart from it: the residue calls on all pairs of corner values and on random
 //! inputs, and the power of two on every exponent up to 2^16 and on corners above;
 //! the two checks and the writer, for plain tickets and for bias tickets, on
-//! families of cases; and the quotes for both on families of settings. Each family
-//! is one test, which also holds the digest of its answers to digests.txt. It is
-//! one more that the checks, the writers and the quotes gave each of their numbers
+//! families of cases; the quotes for both on families of settings; and begin, step
+//! and addition of runs on families of states. Each family is one test, which also
+//! holds the digest of its answers to digests.txt. It is one more that the checks,
+//! the writers, the quotes and the calls of runs gave each of their numbers and marks
 //! at some case, and one that every line of digests.txt was met. The last line says
 //! how many passed, and how many did not.
 //!
@@ -21,6 +22,7 @@ mod outcome;
 mod parts;
 mod quotes;
 mod residues;
+mod runs;
 mod setting;
 
 use std::env;
@@ -29,7 +31,7 @@ use std::process::ExitCode;
 
 use digests::Digests;
 
-use cases::Kind;
+use cases::{mark_name, Kind};
 use comparison::Numbers;
 use outcome::Report;
 
@@ -60,9 +62,16 @@ fn main() -> ExitCode {
         numbers.add(&outcome.numbers);
         run.take(outcome.report(&family.name, "quotes", &mut digests));
     }
+    let runs = runs::all();
+    for family in &runs {
+        let outcome = runs::compare(family, &runs::SIDES);
+        numbers.add(&outcome.numbers);
+        run.take(outcome.report(family.name, "calls", &mut digests));
+    }
     run.take(every_number(&numbers));
     run.take(digests.finish(run.failed > 0));
-    println!("{}", summary(families.len() + quotes.len(), &numbers, inputs));
+    let count = families.len() + quotes.len() + runs.len();
+    println!("{}", summary(count, &numbers, inputs));
     println!("{} passed, {} failed", run.passed, run.failed);
     if run.failed == 0 {
         ExitCode::SUCCESS
@@ -93,7 +102,7 @@ impl Run {
     }
 }
 
-/// A number that a call answers no case with has not been compared.
+/// A number or a mark that a call answers no case with has not been compared.
 fn every_number(numbers: &Numbers) -> Report {
     let mut lines = vec![String::from("answers of each number:")];
     let mut missing = Vec::new();
@@ -104,6 +113,13 @@ fn every_number(numbers: &Numbers) -> Report {
             lines.push(format!("    {number:2}: {count}"));
             if count == 0 {
                 missing.push(format!("{number} by the {}", kind.name()));
+            }
+        }
+        for &mark in kind.marks() {
+            let count = numbers.of_mark(kind, mark);
+            lines.push(format!("    {}: {count}", mark_name(mark)));
+            if count == 0 {
+                missing.push(format!("{} by the {}", mark_name(mark), kind.name()));
             }
         }
     }
@@ -128,15 +144,22 @@ fn summary(families: usize, numbers: &Numbers, inputs: u64) -> String {
 
 #[cfg(test)]
 mod tests {
+    use apart::Mark;
+
     use super::*;
 
-    /// Every number of every call once, except one.
-    fn all_but(missing: Option<(Kind, u32)>) -> Numbers {
+    /// Every number and every mark of every call once, except one.
+    fn all_but(missing: Option<(Kind, u32)>, missing_mark: Option<(Kind, Mark)>) -> Numbers {
         let mut numbers = Numbers::default();
         for kind in Kind::ALL {
             for &number in kind.numbers() {
                 if Some((kind, number)) != missing {
                     numbers.count(kind, number);
+                }
+            }
+            for &mark in kind.marks() {
+                if Some((kind, mark)) != missing_mark {
+                    numbers.count_mark(kind, mark);
                 }
             }
         }
@@ -145,10 +168,10 @@ mod tests {
 
     #[test]
     fn a_number_that_never_occurs_is_noticed() {
-        assert!(every_number(&all_but(None)).is_ok());
+        assert!(every_number(&all_but(None, None)).is_ok());
         for kind in Kind::ALL {
             for &number in kind.numbers() {
-                let numbers = all_but(Some((kind, number)));
+                let numbers = all_but(Some((kind, number)), None);
                 let report = every_number(&numbers).expect_err("a number is missing");
                 let end = format!("never answered: {number} by the {}", kind.name());
                 assert!(report.ends_with(&end), "{report}");
@@ -157,8 +180,23 @@ mod tests {
     }
 
     #[test]
+    fn a_mark_that_never_occurs_is_noticed() {
+        let mut missed = 0;
+        for kind in Kind::ALL {
+            for &mark in kind.marks() {
+                let numbers = all_but(None, Some((kind, mark)));
+                let report = every_number(&numbers).expect_err("a mark is missing");
+                let end = format!("never answered: {} by the {}", mark_name(mark), kind.name());
+                assert!(report.ends_with(&end), "{report}");
+                missed += 1;
+            }
+        }
+        assert_eq!(missed, 8);
+    }
+
+    #[test]
     fn every_number_of_the_table_is_given_by_some_call() {
-        for number in 0..=21 {
+        for number in 0..=22 {
             assert!(Kind::ALL.iter().any(|kind| kind.numbers().contains(&number)));
         }
     }
@@ -175,9 +213,9 @@ mod tests {
     #[test]
     fn the_summary() {
         assert_eq!(
-            summary(5, &all_but(None), 3),
+            summary(5, &all_but(None, None), 3),
             "families 5, challenge check 15, full check 12, writer 8, bias challenge check 17, bias full check 14, \
-             bias writer 10, quote 5, bias quote 6, residue calls 7, inputs 3"
+             bias writer 10, quote 5, bias quote 6, run begin 14, run step 15, run addition 9, residue calls 7, inputs 3"
         );
     }
 }

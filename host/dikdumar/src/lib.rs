@@ -1,6 +1,7 @@
 //! Safe Rust functions over the proved static library: the two checks of a
 //! ticket, the writer of tickets, the same three for bias tickets, quotes for
-//! both kinds before there is a ticket, and residue arithmetic.
+//! both kinds before there is a ticket, the challenge check one row at a step, and
+//! residue arithmetic.
 //!
 //! A ticket holds two integer matrices A and B and, for every entry S of their
 //! product, a quotient q and a remainder r, those of S + o over α: the claim is
@@ -62,12 +63,14 @@ pub mod check;
 mod library;
 pub mod quote;
 pub mod residue;
+pub mod run;
 mod setting;
 pub mod writer;
 
 pub use answer::Answer;
 pub use check::{bias_challenge_check, bias_full_check, challenge_check, full_check};
 pub use quote::{quote_bias_ticket, quote_ticket, Quote};
+pub use run::{run_add, run_begin, run_step, Mark, Run, RunAnswer};
 pub use setting::{BiasSetting, Setting};
 pub use writer::{write_bias_ticket, write_ticket};
 

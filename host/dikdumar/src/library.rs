@@ -15,9 +15,10 @@
 //!   returns, and does not unwind.
 //!
 //! What is left to trust is that the declarations below, and the layouts of
-//! `Setting`, `BiasSetting`, `Answer` and `Quote`, are those of the header.
+//! `Setting`, `BiasSetting`, `Answer`, `Quote`, `Run` and `Told`, are those of the
+//! header.
 
-use crate::{Answer, BiasSetting, Quote, Setting};
+use crate::{Answer, BiasSetting, Mark, Quote, Run, RunAnswer, Setting};
 
 unsafe extern "C" {
     pub safe fn dikdumar_reduce(x: u32) -> u32;
@@ -72,6 +73,37 @@ unsafe extern "C" {
         output: *mut u8,
         output_length: usize,
     ) -> Answer;
+
+    fn dikdumar_run_begin(
+        setting: Setting,
+        ticket: *const u8,
+        ticket_length: usize,
+        list: *const u32,
+        list_length: usize,
+    ) -> Told;
+
+    fn dikdumar_run_step(run: Run, ticket: *const u8, ticket_length: usize) -> Told;
+
+    fn dikdumar_run_add(run: Run, vector: *const u32, vector_length: usize) -> Told;
+}
+
+/// `dikdumar_run_answer`. Its mark comes as a number, since a `Mark` may be no other
+/// than the four.
+#[repr(C)]
+struct Told {
+    run: Run,
+    mark: u32,
+    answer: Answer,
+}
+
+impl From<Told> for RunAnswer {
+    fn from(told: Told) -> RunAnswer {
+        RunAnswer {
+            run: told.run,
+            mark: Mark::of_number(told.mark),
+            answer: told.answer,
+        }
+    }
 }
 
 pub fn challenge_check(setting: Setting, ticket: &[u8], list: &[u32]) -> Answer {
@@ -116,4 +148,22 @@ pub fn write_bias_ticket(setting: BiasSetting, a: &[i32], b: &[i32], bias: &[i32
             length,
         )
     }
+}
+
+pub fn run_begin(setting: Setting, ticket: &[u8], list: &[u32]) -> RunAnswer {
+    // SAFETY: as in `challenge_check`.
+    let told = unsafe { dikdumar_run_begin(setting, ticket.as_ptr(), ticket.len(), list.as_ptr(), list.len()) };
+    told.into()
+}
+
+pub fn run_step(run: Run, ticket: &[u8]) -> RunAnswer {
+    // SAFETY: as in `challenge_check`.
+    let told = unsafe { dikdumar_run_step(run, ticket.as_ptr(), ticket.len()) };
+    told.into()
+}
+
+pub fn run_add(run: Run, vector: &[u32]) -> RunAnswer {
+    // SAFETY: as in `challenge_check`.
+    let told = unsafe { dikdumar_run_add(run, vector.as_ptr(), vector.len()) };
+    told.into()
 }

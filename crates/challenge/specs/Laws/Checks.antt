@@ -12,7 +12,7 @@ use Rattle.ticket.specs.declared.setting.Setting.{Setting}
 use Rattle.ticket.specs.declared.Answer.{Answer}
 use Rattle.ticket.specs.Rules.{reading, after}
 use Rattle.ticket.specs.Laws.Passes.{Passed}
-use Rattle.ticket.specs.Laws.Scans.{after-passed, after-refused}
+use Rattle.ticket.specs.Laws.Scans.{after-first, after-second}
 use Rattle.challenge.specs.Rules.{listReading, verdict, challengeCheck}
 use Rattle.challenge.specs.Laws.Lists.{well-formed-is}
 use Rattle.challenge.specs.Laws.Vectors.{ListReady}
@@ -20,20 +20,17 @@ use Rattle.challenge.specs.Laws.Vectors.{ListReady}
 module _ (G : Setting) (t x : List ℕ) {a : Answer} (a-is : a ≡ reading G t) where
   pub check-ticket : (a .number ≡ 0 → ⊥) → a ≡ challengeCheck G t x
   unfolding challengeCheck
-  check-ticket d = a-is ∙ sym (after-refused _ _ (λ e. d (ap (λ b. b .number) a-is ∙ e)))
+  check-ticket = after-first a-is (after (listReading G x) (verdict G t x))
 
-  module _ (passes : a .number ≡ 0) where
-    later : challengeCheck G t x ≡ after (listReading G x) (verdict G t x)
+  module _ (passes : a .number ≡ 0) {b : Answer} (b-is : b ≡ listReading G x) where
+    pub check-list : (b .number ≡ 0 → ⊥) → b ≡ challengeCheck G t x
     unfolding challengeCheck
-    later = after-passed _ _ (sym (ap (λ b. b .number) a-is) ∙ passes)
+    check-list d = after-second a-is passes (after-first b-is (verdict G t x) d)
 
-    module _ {b : Answer} (b-is : b ≡ listReading G x) where
-      pub check-list : (b .number ≡ 0 → ⊥) → b ≡ challengeCheck G t x
-      check-list d = b-is ∙ sym (later ∙ after-refused _ _ (λ e. d (ap (λ c. c .number) b-is ∙ e)))
-
-      module _ (formed : b .number ≡ 0) where
-        pub check-rows : {c : Answer} → c ≡ verdict G t x → c ≡ challengeCheck G t x
-        check-rows c-is = c-is ∙ sym (later ∙ after-passed _ _ (sym (ap (λ c. c .number) b-is) ∙ formed))
+    module _ (formed : b .number ≡ 0) where
+      pub check-rows : {c : Answer} → c ≡ verdict G t x → c ≡ challengeCheck G t x
+      unfolding challengeCheck
+      check-rows c-is = after-second a-is passes (after-second b-is formed c-is)
 
 pub rows-can : {G : Setting} {t x : List ℕ} {b : Answer} → Passed G t → b ≡ listReading G x → b .number ≡ 0 → ListReady G t x
 rows-can {G} {x = x} passed b-is formed = record { passed = passed; list = well-formed-is G x .0 (sym (ap (λ c. c .number) b-is) ∙ formed) }

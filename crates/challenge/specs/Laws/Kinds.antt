@@ -18,7 +18,7 @@ use Rattle.ticket.specs.Rules.{plain, withBias, biasColumns, entryA, entryBias}
 use Rattle.ticket.specs.Laws.Differences.{no-bias-entry}
 use Rattle.ticket.specs.Laws.Kinds.{plain-none, bias-some}
 use Rattle.ticket.specs.Laws.Limits.{with-bias, without-bias}
-use Rattle.challenge.specs.Rules.{challengeAt, productB, operandSide, rowProducts, challengeProducts, caughtProducts}
+use Rattle.challenge.specs.Rules.{challengeAt, productB, operandSide, operandSideBy, rowProducts, challengeProducts, caughtProducts}
 
 module _ (P : PlainSetting) where
   abbrev G : Setting
@@ -30,7 +30,7 @@ module _ (P : PlainSetting) where
   pub plain-side : (t x : List ℕ) (τ i : ℕ)
       → operandSide (plain P) t x τ i
       ≡ leastResidue modulus (sumℤ (P .inner) (λ k. entryA (plain P) t i k *ℤ pos (productB (plain P) t x τ k)))
-  unfolding operandSide
+  unfolding operandSideBy
   plain-side t x τ i =
       let row = sumℤ (P .inner) (λ k. entryA G t i k *ℤ pos (productB G t x τ k)) in
       let zero = sumℤ-zero (P .columns) (λ j. entryBias G t i j *ℤ pos (challengeAt G x τ j))

@@ -39,7 +39,7 @@ use Rattle.ticket.specs.Laws.All.{all, all-at}
 use Rattle.ticket.specs.Laws.Answers.{unless-zero, after-zero, scan-zero, first-past}
 use Rattle.ticket.specs.Laws.First.{first-within, first-cong}
 use Rattle.ticket.specs.Laws.Limits.{within-both}
-use Rattle.ticket.specs.Laws.Scans.{refusal-none, refusal-is, after-passed, after-refused}
+use Rattle.ticket.specs.Laws.Scans.{refusal-none, refusal-is, after-first, after-second}
 use Rattle.challenge.specs.Rules.{challengeAt, WellFormed, listNumber, firstNonzero, vectorNumber, listReading}
 
 module _ (x : List ℕ) (k : ℕ) where
@@ -175,10 +175,10 @@ module _ (G : Setting) (x : List ℕ) where
       same = rw size at a-is
 
       pub list-numbers : (a .number ≡ 0 → ⊥) → a ≡ listReading G x
-      list-numbers d = same ∙ sym (sized ∙ after-refused numbers vectors (λ e. d (ap (λ b. b .number) same ∙ e)))
+      list-numbers d = after-first same vectors d ∙ sym sized
 
       pub list-vectors : a .number ≡ 0 → {b : Answer} → b ≡ firstRefusal 0 (G .vectors) (vectorNumber G x) → b ≡ listReading G x
-      list-vectors z b-is = b-is ∙ sym (sized ∙ after-passed numbers vectors (sym (ap (λ b. b .number) same) ∙ z))
+      list-vectors z b-is = after-second same z b-is ∙ sym sized
 
     pub first-large : (k : ℕ) → k < count → ((i : ℕ) → i < k → getD x i 0 < modulus) → modulus ≤ getD x k 0
         → refusal 11 k ≡ listReading G x

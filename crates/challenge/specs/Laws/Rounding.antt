@@ -13,7 +13,7 @@ use Rattle.ticket.specs.declared.setting.Setting.{Setting}
 use Rattle.ticket.specs.Rules.{quotient, remainder}
 use Rattle.ticket.specs.Laws.Rounding as ticket
 use Rattle.ticket.specs.Laws.Rounding.{unrounded-claim, rounded}
-use Rattle.challenge.specs.Rules.{challengeAt, firstNonzero, vectorNumber, listReading, productB, claimSide, operandSide, challengeProducts, caughtProducts}
+use Rattle.challenge.specs.Rules.{challengeAt, firstNonzero, vectorNumber, listReading, productB, claimSide, operandSide, operandSideBy, challengeProducts, caughtProducts}
 
 pub unrounded-side : (G : Setting) → G .rounding ≡ 0 → (t x : List ℕ) (τ i : ℕ)
     → claimSide G t x τ i ≡ leastResidue modulus (
@@ -29,7 +29,7 @@ pub record Unread (G : Setting) (o : ℕ) : Type 0 where
   pub catching : (τ i : ℕ) → caughtProducts (rounded G o) τ i ≡ caughtProducts G τ i
 
 pub rounding-unread : (G : Setting) (o : ℕ) → Unread G o
-unfolding firstNonzero vectorNumber listReading productB operandSide
+unfolding firstNonzero vectorNumber listReading productB operandSideBy
 rounding-unread G o =
     let same = ticket.rounding-unread G o in
     record {

@@ -12,6 +12,7 @@
 --   rowSteps G a w d x u τ q  the rows one after the other, for vector number τ after q products
 --   VectorRowsReady G a w d x u s q   the rows can be worked through after q products, s being the lift
 --   SidesReady a w d x z u i n q   so can row i
+--   sides-ready               it is so by the lengths and the sizes of the lists
 --   line-inside               a row is within its list
 --   bias-within               the bias is no wider than the vector
 --   row-sides                 each row is ready, those before it having passed
@@ -97,11 +98,30 @@ pub record SidesReady (a w d x z u : List ℕ) (i right products : ℕ) : Type 0
 pub line-inside : {rows i long : ℕ} (n : ℕ) → i < rows → rows * n ≤ long → i * n + n ≤ long
 line-inside n l h = omega (arith, row-inside n l)
 
+pub sides-ready : {a w d x u : List ℕ} {rows n i right products : ℕ} → ResidueVector x → ResidueVector u → length x ≤ length w → length u ≤ length a
+    → ((k : ℕ) → k < length u → getD a k 0 < 2 ^ 16) → i < rows → n ≤ length x → recordBytes * (rows * n) ≤ length d → right ≤ 2 ^ 62
+    → products + length x + length u + n < 2 ^ 32 → SidesReady a w d x (take n x) u i right products
+sides-ready {d = d} {x} {u} {n = n} {i} vector-x vector-u long-w long-a small l fits long-d most few =
+    let long : length (take n x) ≡ n = length-take-le n x fits in
+    record {
+      claims = record { vector = vector-x; long = long-w };
+      bias =
+          record {
+            vector =
+                record {
+                  short = omega (arith, vector-x .short);
+                  below = λ j m. rw (getD-take n x j 0 (omega arith)) (vector-x .below j (omega arith));
+                };
+            long = rw long (omega (arith, row-inside n l));
+          };
+      operands = record { vector = vector-u; long = long-a };
+      narrow = record { small = small; offset-most = omega (arith, dot-small d (i * length (take n x)) (take n x), modulus-below) };
+      few = omega arith;
+    }
+
 -- lines are as long as the vectors
-line-ready : {rows i : ℕ} (list : List ℕ) {x : List ℕ} → ResidueVector x → i < rows → rows * length x ≤ length list
-    → DotReady (lineAt list (length x) i) x
-line-ready {i = i} list {x} vector l long =
-    record { vector = vector; long = omega (arith, part-long list (i * length x) (length x) (line-inside (length x) l long)) }
+line-long : {rows i : ℕ} (list x : List ℕ) → i < rows → rows * length x ≤ length list → length (lineAt list (length x) i) ≡ length x
+line-long {i = i} list x l long = part-long list (i * length x) (length x) (line-inside (length x) l long)
 
 module _ {G : Setting} {a w d x u : List ℕ} {shift products : ℕ} (ready : VectorRowsReady G a w d x u shift products)
     {n : ℕ} (n-is : n ≡ biasColumns G) where
@@ -118,39 +138,15 @@ module _ {G : Setting} {a w d x u : List ℕ} {shift products : ℕ} (ready : Ve
     counted : b .products + length x + length u + length (take n x) ≡ products + (i + 1) * rowCost G x u
     counted = omega (arith, ap (λ c. c .products) (run .answer-is), bias-long)
 
-    bias-ready : RecordsReady d (i * length (take n x)) (take n x)
-    bias-ready =
-        record {
-          vector =
-              record {
-                short = omega (arith, bias-long, bias-within, ready .vector-x .short);
-                below = λ j m. rw (getD-take n x j 0 (omega (arith, bias-long))) (ready .vector-x .below j (omega (arith, bias-long, bias-within)));
-              };
-          long = rw bias-long (omega (arith, row-inside n l, ready .long-bias, ap (λ k. G .rows * k) n-is));
-        }
-
     pub row-sides : SidesReady r s d x (take n x) u i right (b .products)
     row-sides =
         rw (r-is, s-is, right-is)
-        (record {
-          claims = line-ready w (ready .vector-x) l (ready .long-claims);
-          bias = bias-ready;
-          operands = line-ready a (ready .vector-u) l (ready .long-A);
-          narrow =
-              record {
-                small = λ k m.
-                    rw (part-of a (i * length u) (length u) k 0 m)
-                    (ready .small (i * length u + k) (omega (arith, row-inside (length u) l)));
-                offset-most =
-                    omega (
-                      arith,
-                      offset-small (G .bound) (length u) (λ j. getD u j 0),
-                      dot-small d (i * length (take n x)) (take n x),
-                      modulus-below,
-                    );
-              };
-          few = omega (arith, counted, row-inside (rowCost G x u) l, ready .few);
-        })
+        (sides-ready (ready .vector-x) (ready .vector-u) (omega (arith, line-long w x l (ready .long-claims)))
+        (omega (arith, line-long a u l (ready .long-A)))
+        (λ k m. rw (part-of a (i * length u) (length u) k 0 m) (ready .small (i * length u + k) (omega (arith, row-inside (length u) l))))
+        l bias-within (omega (arith, ready .long-bias, ap (λ k. G .rows * k) n-is))
+        (offset-small (G .bound) (length u) (λ j. getD u j 0))
+        (omega (arith, counted, bias-long, row-inside (rowCost G x u) l, ready .few)))
 
     pub row-step : {left : ℕ} {c : Answer} → left ≡ offsetOf shift x → c ≡ rowAnswer left right r s d x (take n x) u τ i (b .products)
         → c ≡ step-answer (rowSteps G a w d x u τ products) i

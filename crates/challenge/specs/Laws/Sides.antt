@@ -5,12 +5,15 @@
 --   room-within, room-front, room-rest   a room whose first n numbers were filled to be a, and then the others to be w, has at least n;
 --                      its first n are a, and the others are w
 --   decoded-by         what the decoding calls make of a ticket that passes
---   agrees-balanced    the two sides of row i agree, as the code compares them, exactly when the row is balanced
+--   RowDecoded G t i r s  r holds the entries of row i of A with the bound added, s what the claims of that row put for their sums, lifted
+--   sides-balanced     the two sides of a row that is decoded so are equal, as the code compares them, exactly when the row is balanced
+--   agrees-balanced    the same of row i of all that is decoded
 use Prim.Native.Nat.{ℕ, _+_, _-_, _*_, _%_, _≤_, _<_}
 use native.Mathlib.Omega.{arith}
 use mathlib.Core.Path.{_≡_, sym, ap, _∙_}
 use mathlib.Core.Logic.{⊎-elim}
 use mathlib.Core.List.{List, _++_, append-nil}
+use lib.Arith.{digits-lt}
 use lib.IntN.{pos, _*ℤ_, zero-*ℤ}
 use lib.ListN.{length, getD, take, drop, length-append, length-drop}
 use lib.Seq.{drop-at, drop-length, getD-take, length-take-le, take-all, take-at, take-length}
@@ -23,15 +26,15 @@ use Rattle.algebra.specs.Laws.IntegerSums.{sumℤ-none, sumℤ-zero, residue-do
 use Rattle.algebra.specs.Laws.Fills.{Filled, lineAt, part-of}
 use Rattle.ticket.specs.declared.setting.Setting.{Setting}
 use Rattle.ticket.specs.Rules.{halfRange, ofA, ofBias, ofQuotients, ofRemainders, biasColumns, entryA, entryBias, claim, hasBias}
-use Rattle.ticket.specs.Laws.Decodes.{values-bias, ShiftedList, LiftedList, ShiftedEntries, LiftedClaims, entries-shifted, claims-lifted}
+use Rattle.ticket.specs.Laws.Decodes.{values-bias, ShiftedList, LiftedList, ShiftedEntries, LiftedClaims, LiftedRow, ShiftedRow, entries-shifted, claims-lifted}
 use Rattle.ticket.specs.Laws.Layout.{partBytes}
-use Rattle.ticket.specs.Laws.Limits.{with-bias, without-bias, bias-columns-most, clamped, lift, lift-made}
+use Rattle.ticket.specs.Laws.Limits.{with-bias, without-bias, bias-columns-most, clamped, lift, lift-made, lift-small}
 use Rattle.ticket.specs.Laws.Differences.{no-bias-entry}
 use Rattle.ticket.specs.Laws.First.{true-or-false}
 use Rattle.ticket.specs.Laws.Passes.{Passed}
-use Rattle.challenge.specs.Rules.{challengeAt, balanced, claimSide, operandSide, productB}
+use Rattle.challenge.specs.Rules.{challengeAt, balanced, balancedBy, claimSide, operandSideBy, productB}
 use Rattle.challenge.specs.Laws.Products.{dotOf, rowsTimes, dotWith, dot-more, offsetOf, side-made}
-use Rattle.challenge.specs.Laws.Rows.{biasVector, rowAgrees}
+use Rattle.challenge.specs.Laws.Rows.{biasVector, sidesEqual, rowAgrees}
 
 pub record RoomFor (G : Setting) (y u : List ℕ) : Type 0 where
   pub columns : length y ≡ G .columns
@@ -42,6 +45,10 @@ pub record DecodedTo (G : Setting) (t a w : List ℕ) (shift : ℕ) : Type 0 whe
   pub claims : LiftedClaims G t w
   pub lift-is : shift ≡ lift G
   pub lift-below : shift ≤ modulus
+
+pub record RowDecoded (G : Setting) (t : List ℕ) (i : ℕ) (r s : List ℕ) : Type 0 where
+  pub entries : ShiftedRow G t i r
+  pub claims : LiftedRow G t i s
 
 module _ (room : List ℕ) (n m : ℕ) {k : ℕ} {f : ℕ → ℕ} {a : List ℕ} (fits : n + m ≤ length room) (first : Filled 0 (take n room) k f a) where
   -- the room when its first n numbers are filled
@@ -91,16 +98,16 @@ module _ {G : Setting} {t : List ℕ} (passed : Passed G t) where
         lift-below = omega (arith, made .1);
       }
 
-  module _ {a w d : List ℕ} {shift : ℕ} (decoded : DecodedTo G t a w shift) (d-is : d ≡ partBytes (clamped G) t ofBias)
-      (x : List ℕ) (τ : ℕ) (y u : List ℕ) (room : RoomFor G y u)
-      (vector : (j : ℕ) → j < G .columns → getD y j 0 ≡ challengeAt G x τ j) (product : (k : ℕ) → k < G .inner → getD u k 0 ≡ productB G t x τ k)
-      {i : ℕ} (row : i < G .rows) where
-    claims-by : dotWith (offsetOf (lift G) y) (lineAt w (length y) i) y ≡ claimSide G t x τ i
+  -- the lists y and u are a vector and the numbers f that its row takes for its product with B, r and s what row i of A and of the claims are
+  -- decoded to
+  module _ {d : List ℕ} (d-is : d ≡ partBytes (clamped G) t ofBias) (x : List ℕ) (τ : ℕ) (y u : List ℕ) (f : ℕ → ℕ) (room : RoomFor G y u)
+      (vector : (j : ℕ) → j < G .columns → getD y j 0 ≡ challengeAt G x τ j) (product : (k : ℕ) → k < G .inner → getD u k 0 ≡ f k)
+      {i : ℕ} (row : i < G .rows) {r s : List ℕ} (decoded : RowDecoded G t i r s) where
+    claims-by : dotWith (offsetOf (lift G) y) s y ≡ claimSide G t x τ i
     unfolding claimSide
     claims-by =
-        side-made (lift G) (G .columns) (claim G t i) (challengeAt G x τ) (lineAt w (length y) i) y
-        (rw (← decoded .lift-is) (decoded .lift-below)) (room .columns) vector
-        (λ j l. rw (room .columns, part-of w (i * G .columns) (G .columns) j 0 l) (decoded .claims .each i j row l))
+        side-made (lift G) (G .columns) (claim G t i) (challengeAt G x τ) s y
+        (omega (arith, lift-small (passed .numbers) (passed .fitted))) (room .columns) vector (decoded .claims)
 
     bias-long : length (biasVector G y) ≡ biasColumns G
     bias-long = length-take-le (biasColumns G) y (omega (arith, room .columns, bias-columns-most G))
@@ -126,18 +133,31 @@ module _ {G : Setting} {t : List ℕ} (passed : Passed G t) where
         ∙ sym (residue-dot modulus modulus-positive (biasColumns G) (entryBias G t i) (challengeAt G x τ))
         ∙ ap (leastResidue modulus) bias-sum)
 
-    operands-by : dotWith (offsetOf (G .bound) u + rowsTimes d (biasVector G y) i) (lineAt a (length u) i) u
-        ≡ operandSide G t x τ i
-    unfolding operandSide
+    operands-by : dotWith (offsetOf (G .bound) u + rowsTimes d (biasVector G y) i) r u ≡ operandSideBy G t x τ f i
+    unfolding operandSideBy
     operands-by =
-        dot-more (offsetOf (G .bound) u) (rowsTimes d (biasVector G y) i) (lineAt a (length u) i) u
+        dot-more (offsetOf (G .bound) u) (rowsTimes d (biasVector G y) i) r u
         ∙ rw (
-          side-made (G .bound) (G .inner) (entryA G t i) (productB G t x τ) (lineAt a (length u) i) u
-              (omega (arith, passed .numbers .bound, modulus-above)) (room .inner) product
-              (λ k l. rw (room .inner, part-of a (i * G .inner) (G .inner) k 0 l) (decoded .entries .entry i k row l)),
+          side-made (G .bound) (G .inner) (entryA G t i) f r u (omega (arith, passed .numbers .bound, modulus-above)) (room .inner) product
+              (decoded .entries .entry),
           bias-by,
         ) (sym (residue-sum modulus modulus-positive _ _))
 
-    pub agrees-balanced : rowAgrees G a w d y u i ≡ balanced G t x τ i
-    unfolding balanced
-    agrees-balanced = rw (claims-by, operands-by)
+    pub sides-balanced : sidesEqual (offsetOf (lift G) y) (offsetOf (G .bound) u + rowsTimes d (biasVector G y) i) r s y u
+        ≡ balancedBy G t x τ f i
+    unfolding balancedBy
+    sides-balanced = rw (claims-by, operands-by)
+
+  pub agrees-balanced : {a w d : List ℕ} {shift : ℕ} → DecodedTo G t a w shift → d ≡ partBytes (clamped G) t ofBias → (x : List ℕ) (τ : ℕ)
+      (y u : List ℕ) → RoomFor G y u → ((j : ℕ) → j < G .columns → getD y j 0 ≡ challengeAt G x τ j)
+      → ((k : ℕ) → k < G .inner → getD u k 0 ≡ productB G t x τ k) → {i : ℕ} → i < G .rows → rowAgrees G a w d y u i ≡ balanced G t x τ i
+  agrees-balanced {a} {w} decoded d-is x τ y u room vector product {i} row =
+      sides-balanced d-is x τ y u (productB G t x τ) room vector product row
+      (record {
+        entries =
+            record {
+              entry = λ k l. rw (room .inner, part-of a (i * G .inner) (G .inner) k 0 l) (decoded .entries .entry i k row l);
+              small = λ k l. rw (room .inner, part-of a (i * G .inner) (G .inner) k 0 l) (decoded .entries .small (i * G .inner + k) (digits-lt row l));
+            };
+        claims = λ j l. rw (room .columns, part-of w (i * G .columns) (G .columns) j 0 l) (decoded .claims .each i j row l);
+      })

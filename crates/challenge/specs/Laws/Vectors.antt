@@ -4,10 +4,14 @@
 --   ListReady G t x          the vectors of the list x can be worked through
 --   vectorSteps G t x        the vectors one after the other
 --   vectors-answer           their answer is the verdict
---   VectorReady G t x τ q    vector τ can be worked through after q products
+--   VectorThere G t x τ      vector τ is one of the list
+--   VectorReady G t x τ q    it can be worked through after q products
 --   vector-ready             each can, those before it having passed
 --   line-within, line-fits   the vector is within the list, and is not too long for y
+--   vector-numbers, vector-is, vector-residues   y holds its numbers, and is it; they are least residues
 --   matrix-ready             the bytes of B hold its rows
+--   product-by               rows of B times a vector are its product with B
+--   product-made             u holds that
 --   rows-ready               the rows are ready once y and u are filled
 --   vector-answered          the answer of the rows, by what they are decoded to, is that of the vector
 use Prim.Native.Nat.{ℕ, _+_, _*_, _%_, _≤_, _<_, _^_}
@@ -58,9 +62,12 @@ pub vectors-answer : (G : Setting) (t x : List ℕ) → steps-answer (vectorStep
 unfolding verdict
 vectors-answer G t x = refl
 
-pub record VectorReady (G : Setting) (t x : List ℕ) (τ products : ℕ) : Type 0 where
+pub record VectorThere (G : Setting) (t x : List ℕ) (τ : ℕ) : Type 0 where
   pub list : ListReady G t x
   pub within : τ < G .vectors
+
+pub record VectorReady (G : Setting) (t x : List ℕ) (τ products : ℕ) : Type 0 where
+  pub there : VectorThere G t x τ
   pub products-are : products ≡ τ * vectorProducts G
   pub few : products + vectorProducts G < 2 ^ 32
 
@@ -71,18 +78,26 @@ vector-ready {G} {τ = τ} {a} ready run l =
     let most : vectorProducts G ≤ mostInner * mostColumns + 2 * (mostRows * mostColumns) + mostRows * mostInner = omega arith in
     let made : a .products ≡ τ * vectorProducts G = ap (λ b. b .products) (run .answer-is) in
     record {
-      list = ready;
-      within = l;
+      there = record { list = ready; within = l };
       products-are = made;
       few = omega (arith, row-inside (vectorProducts G) l, mul-le-mul (counts .sizes .vectors .1) most);
     }
 
-module _ {G : Setting} {t x : List ℕ} {τ products : ℕ} (ready : VectorReady G t x τ products) where
+pub product-by : {G : Setting} {t b : List ℕ} → Passed G t → b ≡ partBytes (clamped G) t ofB → (x y : List ℕ) (τ : ℕ)
+    → length y ≡ G .columns → ((j : ℕ) → j < G .columns → getD y j 0 ≡ challengeAt G x τ j) → {k : ℕ} → k < G .inner → rowsTimes b y k ≡ productB G t x τ k
+unfolding dotOf productB
+product-by {G} {t} passed b-is x y τ long numbers {k} l =
+    rw long
+    (ap (λ n. n % modulus) (sum-cong (G .columns) _ (λ j. leastResidue modulus (entryB G t k j) * challengeAt G x τ j)
+    (λ j m. rw (values-B passed b-is .1 k j l m, numbers j m)))
+    ∙ sym (residue-dot modulus modulus-positive (G .columns) (entryB G t k) (challengeAt G x τ)))
+
+module _ {G : Setting} {t x : List ℕ} {τ : ℕ} (there : VectorThere G t x τ) where
   abbrev v : List ℕ
   v = lineAt x (G .columns) τ
 
   vector-inside : τ * G .columns + G .columns ≤ length x
-  vector-inside = line-inside (G .columns) (ready .within) (omega (arith, ready .list .list .size))
+  vector-inside = line-inside (G .columns) (there .within) (omega (arith, there .list .list .size))
 
   vector-long : length v ≡ G .columns
   vector-long = part-long x (τ * G .columns) (G .columns) vector-inside
@@ -93,10 +108,10 @@ module _ {G : Setting} {t x : List ℕ} {τ products : ℕ} (ready : VectorReady
   vector : ResidueVector v
   vector =
       record {
-        short = omega (arith, vector-long, ready .list .passed .counts .sizes);
+        short = omega (arith, vector-long, there .list .passed .counts .sizes);
         below = λ j l.
             let m : j < G .columns = omega (arith, vector-long) in
-            rw (entries j m) (ready .list .list .below (τ * G .columns + j) (omega (arith, vector-inside, ready .list .list .size)));
+            rw (entries j m) (there .list .list .below (τ * G .columns + j) (omega (arith, vector-inside, there .list .list .size)));
       }
 
   pub line-within : {before-y before-u : List ℕ} → RoomFor G before-y before-u → τ * length before-y + length before-y ≤ length x
@@ -109,67 +124,72 @@ module _ {G : Setting} {t x : List ℕ} {τ products : ℕ} (ready : VectorReady
     pub line-fits : length z ≤ length before-y
     line-fits = omega (arith, ap length line-is, vector-long, room .columns)
 
-    module _ {y b : List ℕ} (widened : Filled 0 before-y (length z) (λ j. getD z j 0) y) (b-is : b ≡ partBytes (clamped G) t ofB) where
-      y-is : y ≡ v
-      y-is =
+    module _ {y : List ℕ} (widened : Filled 0 before-y (length z) (λ j. getD z j 0) y) where
+      pub vector-is : y ≡ v
+      vector-is =
           ext-getD 0 y v (widened .long ∙ room .columns ∙ sym vector-long)
           (λ j l. widened .each j (omega (arith, ap length line-is, vector-long, widened .long, room .columns)) ∙ ap (λ q. getD q j 0) line-is)
 
-      pub matrix-ready : ProductReady b (length before-u) y
-      matrix-ready =
-          rw (y-is, room .inner) (
-          record {
-            vector = vector;
-            long = omega (arith, ap (λ n. G .inner * n) vector-long, values-B (ready .list .passed) b-is .0);
-          })
+      pub vector-numbers : (j : ℕ) → j < G .columns → getD y j 0 ≡ challengeAt G x τ j
+      vector-numbers j l = ap (λ q. getD q j 0) vector-is ∙ entries j l
 
-      module _ {u : List ℕ} (made : Filled 0 before-u (length before-u) (rowsTimes b y) u) where
-        product-made : (k : ℕ) → k < G .inner → getD u k 0 ≡ productB G t x τ k
-        unfolding dotOf productB
-        product-made k l =
-            made .each k (omega (arith, room .inner)) ∙ rw (y-is, vector-long)
-            (ap (λ n. n % modulus) (sum-cong (G .columns) _ (λ j. leastResidue modulus (entryB G t k j) * challengeAt G x τ j)
-            (λ j m. rw (values-B (ready .list .passed) b-is .1 k j l m, entries j m)))
-            ∙ sym (residue-dot modulus modulus-positive (G .columns) (entryB G t k) (challengeAt G x τ)))
+      pub vector-residues : ResidueVector y
+      vector-residues = rw vector-is vector
 
-        product-vector : ResidueVector u
-        unfolding dotOf
-        product-vector =
+      module _ {b : List ℕ} (b-is : b ≡ partBytes (clamped G) t ofB) where
+        pub matrix-ready : ProductReady b (length before-u) y
+        matrix-ready =
+            rw (vector-is, room .inner) (
             record {
-              short = omega (arith, made .long, room .inner, ready .list .passed .counts .sizes);
-              below = λ k l. rw (made .each k (omega (arith, made .long))) (mod-lt _ modulus-positive);
-            }
+              vector = vector;
+              long = omega (arith, ap (λ n. G .inner * n) vector-long, values-B (there .list .passed) b-is .0);
+            })
 
-        rooms : RoomFor G y u
-        rooms = record { columns = ap length y-is ∙ vector-long; inner = made .long ∙ room .inner }
+        module _ {u : List ℕ} (made : Filled 0 before-u (length before-u) (rowsTimes b y) u) where
+          pub product-made : (k : ℕ) → k < G .inner → getD u k 0 ≡ productB G t x τ k
+          product-made k l =
+              made .each k (omega (arith, room .inner))
+              ∙ product-by (there .list .passed) b-is x y τ (ap length vector-is ∙ vector-long) vector-numbers l
 
-        module _ {a w d : List ℕ} {shift : ℕ} (d-is : d ≡ partBytes (clamped G) t ofBias) (decoded : DecodedTo G t a w shift) where
-          pub rows-ready : VectorRowsReady G a w d y u shift (products + G .inner * G .columns)
-          rows-ready =
-              let passed = ready .list .passed in
+          product-vector : ResidueVector u
+          unfolding dotOf
+          product-vector =
               record {
-                lift-is = decoded .lift-is;
-                lift-below = decoded .lift-below;
-                bound-below = omega (arith, passed .numbers .bound, modulus-above);
-                few = rw (rooms .columns, rooms .inner) (omega (arith, ready .few));
-                vector-x = rw y-is vector;
-                vector-u = product-vector;
-                long-A = rw (rooms .inner) (decoded .entries .long);
-                long-claims = rw (rooms .columns) (decoded .claims .long);
-                bias-fits = omega (arith, rooms .columns, bias-columns-most G);
-                long-bias = omega (arith, values-bias passed d-is .0);
-                small = rw (rooms .inner) (decoded .entries .small);
+                short = omega (arith, made .long, room .inner, there .list .passed .counts .sizes);
+                below = λ k l. rw (made .each k (omega (arith, made .long))) (mod-lt _ modulus-positive);
               }
 
-          pub vector-answered : {r : Answer} → r ≡ steps-answer (rowSteps G a w d y u τ (products + G .inner * G .columns))
-              → r ≡ step-answer (vectorSteps G t x) τ
-          unfolding firstRow
-          vector-answered {r} e =
-              e
-              ∙ scan-cong (G .rows) _ (balanced G t x τ) _ _
-              (λ i l. agrees-balanced (ready .list .passed) decoded d-is x τ y u rooms (λ j m. ap (λ q. getD q j 0) y-is ∙ entries j m) product-made l)
-              ∙ scan-by-first (G .rows) (balanced G t x τ) _ _
-              ∙ rw (rooms .columns, rooms .inner, ready .products-are, counted)
-            where
-              counted : τ * vectorProducts G + G .inner * G .columns + G .rows * rowProducts G ≡ (τ + 1) * vectorProducts G
-              counted = omega arith
+          rooms : RoomFor G y u
+          rooms = record { columns = ap length vector-is ∙ vector-long; inner = made .long ∙ room .inner }
+
+          module _ {a w d : List ℕ} {shift : ℕ} (d-is : d ≡ partBytes (clamped G) t ofBias) (decoded : DecodedTo G t a w shift)
+              {products : ℕ} (ready : VectorReady G t x τ products) where
+            pub rows-ready : VectorRowsReady G a w d y u shift (products + G .inner * G .columns)
+            rows-ready =
+                let passed = there .list .passed in
+                record {
+                  lift-is = decoded .lift-is;
+                  lift-below = decoded .lift-below;
+                  bound-below = omega (arith, passed .numbers .bound, modulus-above);
+                  few = rw (rooms .columns, rooms .inner) (omega (arith, ready .few));
+                  vector-x = vector-residues;
+                  vector-u = product-vector;
+                  long-A = rw (rooms .inner) (decoded .entries .long);
+                  long-claims = rw (rooms .columns) (decoded .claims .long);
+                  bias-fits = omega (arith, rooms .columns, bias-columns-most G);
+                  long-bias = omega (arith, values-bias passed d-is .0);
+                  small = rw (rooms .inner) (decoded .entries .small);
+                }
+
+            pub vector-answered : {r : Answer} → r ≡ steps-answer (rowSteps G a w d y u τ (products + G .inner * G .columns))
+                → r ≡ step-answer (vectorSteps G t x) τ
+            unfolding firstRow
+            vector-answered {r} e =
+                e
+                ∙ scan-cong (G .rows) _ (balanced G t x τ) _ _
+                (λ i l. agrees-balanced (there .list .passed) decoded d-is x τ y u rooms vector-numbers product-made l)
+                ∙ scan-by-first (G .rows) (balanced G t x τ) _ _
+                ∙ rw (rooms .columns, rooms .inner, ready .products-are, counted)
+              where
+                counted : τ * vectorProducts G + G .inner * G .columns + G .rows * rowProducts G ≡ (τ + 1) * vectorProducts G
+                counted = omega arith

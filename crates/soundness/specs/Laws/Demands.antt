@@ -40,7 +40,7 @@ use Rattle.ticket.specs.declared.setting.Setting.{Setting}
 use Rattle.ticket.specs.Rules.{Passes, claim, due, entryA, entryB, entryBias, FalseIn}
 use Rattle.ticket.specs.Laws.Passes.{passed-of}
 use Rattle.ticket.specs.Laws.Differences.{biasedSum-is, claims-close, claims-true, ticket-decided}
-use Rattle.challenge.specs.Rules.{challengeAt, WellFormed, productB, claimSide, operandSide, balanced, Accepted, DifferIn}
+use Rattle.challenge.specs.Rules.{challengeAt, WellFormed, productB, claimSide, operandSide, operandSideBy, balanced, balancedBy, Accepted, DifferIn}
 use Rattle.challenge.specs.Laws.Lists.{well-formed-is}
 use Rattle.soundness.specs.Laws.Answers.{AllBalanced, accepted-exactly, accepted-number}
 
@@ -57,7 +57,7 @@ difference G t i j = claim G t i j -ℤ due G t i j
 
 pub operand-side : (G : Setting) (t x : List ℕ) (τ i : ℕ)
     → operandSide G t x τ i ≡ leastResidue modulus (sumℤ (G .columns) (λ j. due G t i j *ℤ pos (challengeAt G x τ j)))
-unfolding operandSide productB
+unfolding operandSideBy productB
 operand-side G t x τ i =
     sum-through modulus modulus-positive (G .inner) (G .columns) (entryA G t) (entryB G t) (entryBias G t) i (challengeAt G x τ)
     ∙ ap (leastResidue modulus) (sumℤ-cong (G .columns) _ _ (λ j l.
@@ -65,7 +65,7 @@ operand-side G t x τ i =
 
 pub balanced-is : (G : Setting) (t x : List ℕ) (τ i : ℕ) → (balanced G t x τ i ≡ true)
     ↔ (leastResidue modulus (sumℤ (G .columns) (λ j. difference G t i j *ℤ pos (challengeAt G x τ j))) ≡ 0)
-unfolding balanced claimSide
+unfolding balancedBy claimSide
 balanced-is G t x τ i = (
   λ e. rows .0 (eqb-true _ _ e ∙ operand-side G t x τ i),
   λ z. eq-eqb _ _ (rows .1 z ∙ sym (operand-side G t x τ i)),
@@ -108,7 +108,7 @@ false-wrong G t passes j column =
 
 -- a ticket that is false in no column balances every row
 true-balanced : (G : Setting) (t : List ℕ) → ((j : ℕ) → FalseIn G t j → ⊥) → (x : List ℕ) → AllBalanced G t x
-unfolding balanced claimSide
+unfolding balancedBy claimSide
 true-balanced G t none x τ i l m =
     eq-eqb _ _
     (ap (leastResidue modulus) (sumℤ-cong (G .columns) _ _ (λ j h. ap (λ c. c *ℤ pos (challengeAt G x τ j)) (claims-true G t none i j m h)))

@@ -14,8 +14,11 @@
 --   negated-by            it by a difference that wraps
 --   negated-word          the negative of the entry of a least residue, modulo 2^32
 --   decodable             how many bytes the code takes for a part of a ticket that passes, and which values
+--   decodable-row         the same of one row of a part
 --   ShiftedEntries G t a, entries-shifted   a holds the entries of A, each with the bound added
+--   ShiftedRow G t i a, row-shifted         a holds row i of them
 --   LiftedClaims G t y, claims-lifted       y holds what the claims put for their sums, lifted
+--   LiftedRow G t i y, row-lifted           y holds row i of them
 --   entries-A, entries-B  the entries of A and of B as 16-bit numbers
 --   values-B, values-bias   the values of the records of B, and of the bias
 --   SumClaims G t y, claims-less   y holds what the claims put for the exact sums, the bias taken off, lifted modulo 2^32
@@ -28,6 +31,7 @@ use mathlib.Core.Bool.{true, false}
 use mathlib.Core.Logic.{⊎-elim}
 use mathlib.Core.List.{List}
 use lib.Arith.{digits-lt}
+use lib.Dec.{lit<}
 use lib.IntN.{ℤ, pos, negsuc, natAbs, _+ℤ_, _-ℤ_, _*ℤ_}
 use lib.ListN.{length, getD}
 use mir.Syntax.{w16}
@@ -37,10 +41,10 @@ use Rattle.residue.specs.Laws.Integers.{positive, negative, difference-of-natur
 use Rattle.residue.specs.Laws.Modulo.{carriedSum, carried-sum, carried-low, carried-high}
 use Rattle.residue.specs.Laws.Modulus.{modulus-positive, modulus-above, modulus-below, modulus-odd}
 use Rattle.residue.specs.Laws.Residues.{entry-low, entry-high, entry-small, residue-of-natural, residue-of-residue, residue-shift, residue-sum}
-use Rattle.algebra.specs.Laws.Fills.{Filled}
-use Rattle.algebra.specs.Laws.Positions.{by-rows}
+use Rattle.algebra.specs.Laws.Fills.{Filled, lineAt, part-of, part-long}
+use Rattle.algebra.specs.Laws.Positions.{by-rows, row-inside}
 use Rattle.ticket.specs.declared.setting.Setting.{Setting}
-use Rattle.ticket.specs.Rules.{halfRange, parts, part, partSize, ofA, ofB, ofBias, ofQuotients, ofRemainders, biasColumns, recordBytes, valueAt, valueIn, shiftedQuotient, entryA, entryB, entryBias, quotient, remainder, claim, hasBias}
+use Rattle.ticket.specs.Rules.{halfRange, parts, part, partSize, ofA, ofB, ofBias, ofQuotients, ofRemainders, biasColumns, recordBytes, byteAt, valueAt, valueIn, shiftedQuotient, entryA, entryB, entryBias, quotient, remainder, claim, hasBias}
 use Rattle.ticket.specs.Laws.First.{true-or-false}
 use Rattle.ticket.specs.Laws.Limits.{with-bias, without-bias, half-small, lift, clamped, clamped-same}
 use Rattle.ticket.specs.Laws.Layout.{partBytes, part-bytes-long, value-of-part, value-in}
@@ -144,12 +148,31 @@ negated-word v least =
       ap negative shifted,
     ))
 
+-- record j of line i, of lines of n records each
+value-of-line : (b : List ℕ) (n i : ℕ) {j : ℕ} → j < n → valueAt (lineAt b (recordBytes * n) i) j ≡ valueAt b (i * n + j)
+unfolding valueAt
+value-of-line b n i {j} l = rw (byte 4 (lit< tt), byte 5 (lit< tt), byte 6 (lit< tt), byte 7 (lit< tt))
+  where
+    byte : (k : ℕ) → k < recordBytes → byteAt (lineAt b (recordBytes * n) i) j k ≡ byteAt b (i * n + j) k
+    byte k m = part-of b (i * (recordBytes * n)) (recordBytes * n) (recordBytes * j + k) 0 (omega arith) ∙ ap (λ q. getD b q 0) (omega arith)
+
 module _ {G : Setting} {t : List ℕ} (passed : Passed G t) where
   pub decodable : (w : ℕ) {b : List ℕ} → b ≡ partBytes (clamped G) t w → (length b ≡ recordBytes * partSize (part G w))
       × ((i j : ℕ) → i < part G w .rows → j < part G w .columns → valueAt b (i * part G w .columns + j) ≡ valueIn G t w i j)
   decodable w b-is =
       rw (b-is, clamped-same (passed .counts .sizes) (passed .numbers))
       (part-bytes-long G t w (passed .long), λ i j l m. value-of-part G t w (digits-lt l m) ∙ sym (value-in G t w i j))
+
+  pub decodable-row : (w : ℕ) {b r : List ℕ} {i : ℕ} → b ≡ partBytes (clamped G) t w → i < part G w .rows
+      → r ≡ lineAt b (recordBytes * part G w .columns) i
+      → (length r ≡ recordBytes * part G w .columns) × ((j : ℕ) → j < part G w .columns → valueAt r j ≡ valueIn G t w i j)
+  decodable-row w {b} {i = i} b-is l r-is =
+      let d = decodable w b-is in
+      let size = recordBytes * part G w .columns in
+      rw r-is (
+        part-long b (i * size) size (omega (arith, d .0, row-inside (part G w .columns) l)),
+        λ j m. value-of-line b (part G w .columns) i m ∙ d .1 i j l m,
+      )
 
 -- the size of an integer that is shifted
 shifted-most : {x T : ℕ} (s : ℕ) (z : ℤ) → pos x ≡ z +ℤ pos s → natAbs z ≤ T → x ≤ s + T
@@ -159,6 +182,13 @@ pub record ShiftedEntries (G : Setting) (t a : List ℕ) : Type 0 where
   pub long : G .rows * G .inner ≤ length a
   pub entry : (i k : ℕ) → i < G .rows → k < G .inner → pos (getD a (i * G .inner + k) 0) ≡ entryA G t i k +ℤ pos (G .bound)
   pub small : (k : ℕ) → k < G .rows * G .inner → getD a k 0 < 2 ^ 16
+
+pub record ShiftedRow (G : Setting) (t : List ℕ) (i : ℕ) (a : List ℕ) : Type 0 where
+  pub entry : (k : ℕ) → k < G .inner → pos (getD a k 0) ≡ entryA G t i k +ℤ pos (G .bound)
+  pub small : (k : ℕ) → k < G .inner → getD a k 0 < 2 ^ 16
+
+abbrev pub LiftedRow : Setting → List ℕ → ℕ → List ℕ → Type 0
+LiftedRow G t i y = (j : ℕ) → j < G .columns → Lifted G (claim G t i j) (getD y j 0)
 
 pub record LiftedClaims (G : Setting) (t y : List ℕ) : Type 0 where
   pub long : G .rows * G .columns ≤ length y
@@ -174,72 +204,113 @@ module _ {G : Setting} {t : List ℕ} (passed : Passed G t) where
   bound-small : (narrowShift ≤ (modulus - 1) / 2) × (G .bound ≤ (modulus - 1) / 2)
   bound-small = omega (arith, modulus-above, passed .numbers .bound)
 
-  module _ {a before : List ℕ} {b : List ℕ} (b-is : b ≡ partBytes (clamped G) t ofA) (room : G .rows * G .inner ≤ length before)
-      (filled : ShiftedList b (G .bound) before a) where
-    entry-shifted : (i k : ℕ) → i < G .rows → k < G .inner → pos (getD a (i * G .inner + k) 0) ≡ entryA G t i k +ℤ pos (G .bound)
+  -- an entry of A, with the bound added
+  module _ (i k : ℕ) (l : i < G .rows) (m : k < G .inner) {x : ℕ} (x-is : x ≡ carriedSum modulus (valueIn G t ofA i k) (G .bound)) where
+    entry-shifted : pos x ≡ entryA G t i k +ℤ pos (G .bound)
     unfolding parts part entryA
-    entry-shifted i k l m =
-        let d = decodable passed ofA b-is in
-        let value = valueIn G t ofA i k in
-        let inside : i * G .inner + k < decodedCount b (length before) = omega (arith, d .0, digits-lt l m) in
-        ap pos (filled .each (i * G .inner + k) inside ∙ rw (d .1 i k l m))
-        ∙ shifted-entry modulus modulus-odd modulus-below (G .bound) value (bound-small .1) (valid passed ofA i k l m .below) (size-entryA passed i k l m)
+    entry-shifted =
+        ap pos x-is ∙ shifted-entry modulus modulus-odd modulus-below (G .bound) (valueIn G t ofA i k) (bound-small .1)
+        (valid passed ofA i k l m .below) (size-entryA passed i k l m)
 
-    pub entries-shifted : ShiftedEntries G t a
-    entries-shifted =
-        record {
-          long = omega (arith, filled .long);
-          entry = entry-shifted;
-          small = by-rows (λ k. getD a k 0 < 2 ^ 16) (G .inner) (λ i k l m.
-              omega (arith, shifted-most (G .bound) (entryA G t i k) (entry-shifted i k l m) (size-entryA passed i k l m), passed .numbers .bound));
-        }
+    entry-narrow : x < 2 ^ 16
+    entry-narrow = omega (arith, shifted-most (G .bound) (entryA G t i k) entry-shifted (size-entryA passed i k l m), passed .numbers .bound)
+
+  module _ {a before b : List ℕ} (b-is : b ≡ partBytes (clamped G) t ofA) where
+    module _ (room : G .rows * G .inner ≤ length before) (filled : ShiftedList b (G .bound) before a) where
+      shifted-at : (i k : ℕ) → i < G .rows → k < G .inner
+          → getD a (i * G .inner + k) 0 ≡ carriedSum modulus (valueIn G t ofA i k) (G .bound)
+      unfolding parts part
+      shifted-at i k l m =
+          let d = decodable passed ofA b-is in
+          filled .each (i * G .inner + k) (omega (arith, d .0, digits-lt l m)) ∙ rw (d .1 i k l m)
+
+      pub entries-shifted : ShiftedEntries G t a
+      entries-shifted =
+          record {
+            long = omega (arith, filled .long);
+            entry = λ i k l m. entry-shifted i k l m (shifted-at i k l m);
+            small = by-rows (λ k. getD a k 0 < 2 ^ 16) (G .inner) (λ i k l m. entry-narrow i k l m (shifted-at i k l m));
+          }
+
+    module _ {i : ℕ} (row : i < G .rows) {r : List ℕ} (r-is : r ≡ lineAt b (recordBytes * G .inner) i) (room : G .inner ≤ length before)
+        (filled : ShiftedList r (G .bound) before a) where
+      row-shifted-at : (k : ℕ) → k < G .inner → getD a k 0 ≡ carriedSum modulus (valueIn G t ofA i k) (G .bound)
+      unfolding parts part
+      row-shifted-at k m =
+          let d = decodable-row passed ofA b-is row r-is in
+          filled .each k (omega (arith, d .0)) ∙ rw (d .1 k m)
+
+      pub row-shifted : ShiftedRow G t i a
+      row-shifted =
+          record { entry = λ k m. entry-shifted i k row m (row-shifted-at k m); small = λ k m. entry-narrow i k row m (row-shifted-at k m) }
+
+  -- what a claim puts for its sum, lifted: a shifted quotient times the scale, and a remainder
+  lifted-parts : (s r : ℕ)
+      → pos (s * G .scale + r) ≡ pos (G .scale) *ℤ (pos s -ℤ pos (halfRange G)) +ℤ pos r -ℤ pos (G .rounding) +ℤ pos (lift G)
+  lifted-parts s r =
+      let q = pos s -ℤ pos (halfRange G) in
+      let scaled = pos (G .scale) *ℤ q in
+      let claimed = scaled +ℤ pos r -ℤ pos (G .rounding) in
+      equal-of-parts (pos (s * G .scale + r)) (claimed +ℤ pos (lift G))
+      (omega (
+        arith,
+        parts-sum claimed (pos (lift G)),
+        parts-difference (scaled +ℤ pos r) (pos (G .rounding)),
+        parts-sum scaled (pos r),
+        parts-product (pos (G .scale)) q,
+        ap (λ n. G .scale * n) (parts-difference (pos s) (pos (halfRange G))),
+      ))
+
+  -- and by the values of its records
+  abbrev liftedIn : ℕ → ℕ → ℕ → ℕ
+  liftedIn half i j = (carriedSum modulus (valueIn G t ofQuotients i j) half * G .scale + valueIn G t ofRemainders i j) % 2 ^ 32
+
+  claim-lifted : {half : ℕ} → half ≡ halfRange (clamped G) → (i j : ℕ) → i < G .rows → j < G .columns
+      → {x : ℕ} → x ≡ liftedIn half i j → Lifted G (claim G t i j) x
+  unfolding parts part claim quotient remainder shiftedQuotient
+  claim-lifted {half} half-is i j l m x-is =
+      let value = valueIn G t ofQuotients i j in
+      let shifted = shiftedQuotient (G .width) value in
+      let left = valueIn G t ofRemainders i j in
+      let same : half ≡ halfRange G = half-is ∙ ap halfRange (clamped-same (passed .counts .sizes) (passed .numbers)) in
+      let scaled = mul-le-mul-right (G .scale) (shifted-below passed i j l m) in
+      let twice = mul-le-mul-left shifted (passed .numbers .scale .0) in
+      let carried = carried-sum modulus modulus-odd modulus-below value (halfRange G) (valid passed ofQuotients i j l m .below)
+      (omega (arith, half-small {G = G} (passed .numbers), modulus-above)) (omega (arith, scaled, twice, passed .fitted .claims)) in
+      let few : shifted * G .scale + left < 2 ^ 32 =
+      omega (arith, scaled, passed .fitted .claims, modulus-below, remainder-below passed i j l m) in
+      ap pos (x-is ∙ rw (same, carried, mod-eq-of-lt few)) ∙ lifted-parts shifted left
 
   module _ {y before q r : List ℕ} {half : ℕ} (q-is : q ≡ partBytes (clamped G) t ofQuotients) (r-is : r ≡ partBytes (clamped G) t ofRemainders)
-      (half-is : half ≡ halfRange (clamped G)) (room : G .rows * G .columns ≤ length before)
-      (filled : LiftedList q r half (G .scale) before y) where
-    inside : (i j : ℕ) → i < G .rows → j < G .columns → i * G .columns + j < claimCount q r (length before)
-    unfolding parts part
-    inside i j l m = omega (arith, decodable passed ofQuotients q-is .0, decodable passed ofRemainders r-is .0, digits-lt l m)
+      (half-is : half ≡ halfRange (clamped G)) where
+    module _ (room : G .rows * G .columns ≤ length before) (filled : LiftedList q r half (G .scale) before y) where
+      lifted-at : (i j : ℕ) → i < G .rows → j < G .columns → getD y (i * G .columns + j) 0 ≡ liftedIn half i j
+      unfolding parts part
+      lifted-at i j l m =
+          let d = decodable passed ofQuotients q-is in
+          let e = decodable passed ofRemainders r-is in
+          filled .each (i * G .columns + j) (omega (arith, d .0, e .0, digits-lt l m)) ∙ rw (d .1 i j l m, e .1 i j l m)
 
-    pub claims-lifted : LiftedClaims G t y
-    unfolding parts part claim quotient remainder shiftedQuotient
-    claims-lifted =
-        record {
-          long = omega (arith, filled .long);
-          words = λ i j l m. rw (filled .each (i * G .columns + j) (inside i j l m)) (mod-lt _ (omega arith));
-          each = λ i j l m.
-              let d = decodable passed ofQuotients q-is in
-              let e = decodable passed ofRemainders r-is in
-              let value = valueIn G t ofQuotients i j in
-              let shifted = shiftedQuotient (G .width) value in
-              let left = valueIn G t ofRemainders i j in
-              let same : half ≡ halfRange G = half-is ∙ ap halfRange (clamped-same (passed .counts .sizes) (passed .numbers)) in
-              let scaled = mul-le-mul-right (G .scale) (shifted-below passed i j l m) in
-              let twice = mul-le-mul-left shifted (passed .numbers .scale .0) in
-              let carried = carried-sum modulus modulus-odd modulus-below value (halfRange G) (valid passed ofQuotients i j l m .below)
-              (omega (arith, half-small {G = G} (passed .numbers), modulus-above)) (omega (arith, scaled, twice, passed .fitted .claims)) in
-              let few : shifted * G .scale + left < 2 ^ 32 =
-              omega (arith, scaled, passed .fitted .claims, modulus-below, remainder-below passed i j l m) in
-              ap pos (filled .each (i * G .columns + j) (inside i j l m) ∙ rw (d .1 i j l m, e .1 i j l m, same, carried, mod-eq-of-lt few))
-              ∙ claim-lifted shifted left;
-        }
-      where
-        -- a shifted quotient times the scale, and a remainder, is the claim of the two, lifted
-        claim-lifted : (s r : ℕ)
-            → pos (s * G .scale + r) ≡ pos (G .scale) *ℤ (pos s -ℤ pos (halfRange G)) +ℤ pos r -ℤ pos (G .rounding) +ℤ pos (lift G)
-        claim-lifted s r =
-            let q = pos s -ℤ pos (halfRange G) in
-            let scaled = pos (G .scale) *ℤ q in
-            let claimed = scaled +ℤ pos r -ℤ pos (G .rounding) in
-            equal-of-parts (pos (s * G .scale + r)) (claimed +ℤ pos (lift G))
-            (omega (
-              arith,
-              parts-sum claimed (pos (lift G)),
-              parts-difference (scaled +ℤ pos r) (pos (G .rounding)),
-              parts-sum scaled (pos r),
-              parts-product (pos (G .scale)) q,
-              ap (λ n. G .scale * n) (parts-difference (pos s) (pos (halfRange G))),
-            ))
+      pub claims-lifted : LiftedClaims G t y
+      claims-lifted =
+          record {
+            long = omega (arith, filled .long);
+            words = λ i j l m. rw (lifted-at i j l m) (mod-lt _ (omega arith));
+            each = λ i j l m. claim-lifted half-is i j l m (lifted-at i j l m);
+          }
+
+    module _ {i : ℕ} (row : i < G .rows) {q' r' : List ℕ} (q'-is : q' ≡ lineAt q (recordBytes * G .columns) i)
+        (r'-is : r' ≡ lineAt r (recordBytes * G .columns) i) (room : G .columns ≤ length before)
+        (filled : LiftedList q' r' half (G .scale) before y) where
+      row-lifted-at : (j : ℕ) → j < G .columns → getD y j 0 ≡ liftedIn half i j
+      unfolding parts part
+      row-lifted-at j m =
+          let d = decodable-row passed ofQuotients q-is row q'-is in
+          let e = decodable-row passed ofRemainders r-is row r'-is in
+          filled .each j (omega (arith, d .0, e .0)) ∙ rw (d .1 j m, e .1 j m)
+
+      pub row-lifted : LiftedRow G t i y
+      row-lifted j m = claim-lifted half-is i j row m (row-lifted-at j m)
 
   -- an entry as a 16-bit number
   narrow-entry : (v : ℕ) → v < modulus → natAbs (signedEntry modulus v) ≤ G .bound

@@ -8,6 +8,7 @@
 --   refusal-is      the refusal is at i, where the number there is not 0 and those before it are
 --   FirstOther n f i, zeros-or-first   either all of n numbers are 0, or there is a first that is not
 --   after-passed, after-refused   an answer after an earlier one that passes, and after one that refuses
+--   after-first, after-second   the same, as code makes it: the earlier answer where it refuses, else the later one
 --   after-together  two answers before a third
 --   refusal-cong    equal numbers give equal answers
 --   refusal-split   a scan of m + n numbers is a scan of m, then one of the n after them
@@ -61,6 +62,13 @@ after-passed a b e = rw (eq-eqb (a .number) 0 e)
 pub after-refused : (a b : Answer) → (a .number ≡ 0 → ⊥) → after a b ≡ a
 unfolding after
 after-refused a b d = rw (ne-eqb (a .number) 0 d)
+
+module _ {a A : Answer} (a-is : a ≡ A) where
+  pub after-first : (B : Answer) → (a .number ≡ 0 → ⊥) → a ≡ after A B
+  after-first B d = a-is ∙ sym (after-refused _ _ (λ e. d (ap (λ x. x .number) a-is ∙ e)))
+
+  pub after-second : {b B : Answer} → a .number ≡ 0 → b ≡ B → b ≡ after A B
+  after-second z b-is = b-is ∙ sym (after-passed _ _ (sym (ap (λ x. x .number) a-is) ∙ z))
 
 pub after-together : (a b c : Answer) → after (after a b) c ≡ after a (after b c)
 unfolding after

@@ -14,16 +14,17 @@ check-rows-requires c κs =
     let made = c .before .before .before .before .before .before in
     let wide = widened (made .before) in
     let at = wide .before .before in
-    rows-ready (start at .pre .0) (start at .pre .2) (at .line .ensures) (wide .widen .ensures) (made .before .before .before .part .ensures)
-    (made .product .ensures) (c .before .before .before .part2 .ensures) (start at .pre .1)
+    rows-ready (start at .pre .0 .there) (start at .pre .2) (at .line .ensures) (wide .widen .ensures) (made .before .before .before .part .ensures)
+    (made .product .ensures) (c .before .before .before .part2 .ensures) (start at .pre .1) (start at .pre .0)
 
 returns : tie.Need-returns
 returns c =
     let made = c .before .before .before .before .before .before .before in
     let wide = widened (made .before) in
     let at = wide .before .before in
-    vector-answered (start at .pre .0) (start at .pre .2) (at .line .ensures) (wide .widen .ensures) (made .before .before .before .part .ensures)
-    (made .product .ensures) (c .before .before .before .before .part2 .ensures) (start at .pre .1) (c .check-rows .ensures)
+    vector-answered (start at .pre .0 .there) (start at .pre .2) (at .line .ensures) (wide .widen .ensures) (made .before .before .before .part .ensures)
+    (made .product .ensures) (c .before .before .before .before .part2 .ensures) (start at .pre .1) (start at .pre .0)
+    (c .check-rows .ensures)
 
 pub check-vector-spec : {M : Type 1} → statement M
 check-vector-spec =
