@@ -432,8 +432,8 @@ dikdumar_quote dikdumar_quote_bias_ticket(dikdumar_bias_setting setting);
 /* The marks of a run. */
 enum {
     DIKDUMAR_UNDER_WAY = 0, /* there is a next row */
-    DIKDUMAR_CAUGHT = 1,    /* the two sides of a row differ, so the ticket is false */
-    DIKDUMAR_COMPLETE = 2,  /* every row of every vector is made */
+    DIKDUMAR_CAUGHT = 1,    /* the two sides of a row differ */
+    DIKDUMAR_COMPLETE = 2,  /* no row is left */
     DIKDUMAR_REFUSED = 3    /* a test fails: the answer has its number */
 };
 
@@ -447,11 +447,11 @@ enum {
  */
 typedef struct {
     dikdumar_setting setting; /* l, m, n, s, a, T, v and o; an addition raises s */
-    uint32_t list[256];       /* the vectors one after another */
+    uint32_t list[256];       /* the vectors one after another; past list_length it is not read */
     uint32_t list_length;     /* how many numbers of it are the list; 10 where not s*n, so above 256 too */
     uint32_t vector;          /* t, the next vector, from 0 */
     uint32_t row;             /* the next row, from 0 */
-    uint32_t u[64];           /* B times vector t, from that vector's first row on: m numbers */
+    uint32_t u[64];           /* B times vector t, from that vector's first row on; past m it is not read */
     uint32_t caught;          /* 0: not caught; any other number: caught in vector, row */
 } dikdumar_run;
 
@@ -540,9 +540,15 @@ dikdumar_run_answer dikdumar_run_begin(dikdumar_setting setting,
  *       21    a vector of zeros                          vector t
  *
  * The first test that fails decides: 1, 2, 19, 3 and 4, then record after record
- * each by 5, 6 and its own range, then 10, 11 and 21. A refusal hands the state
- * back as it came, and so does a run that is caught or complete. Where a row is
- * made, this changes and nothing else:
+ * each by 5, 6 and its own range, then 10, 11 and 21. Row and products are 0
+ * except in these answers:
+ *
+ *     number  row             products
+ *        0    next row, or 0  those so far, or s*(m*n + l*n + l*m)
+ *       12    row i           t*(m*n + l*n + l*m) + m*n + (i + 1)*(n + m)
+ *
+ * A refusal hands the state back as it came, and so does a run that is caught or
+ * complete. Where a row is made, this changes and nothing else:
  *
  *     u       in row 0 its first m numbers, which become B times the vector
  *     caught  becomes 1 where the sides differ; vector and row stay
@@ -572,10 +578,15 @@ dikdumar_run_answer dikdumar_run_step(dikdumar_run run, const uint8_t *ticket, s
  *       22    the run is caught or complete, or holds eight vectors  0
  *
  * The first test that fails decides: 1, 2, 19 and 3, then 10, 11 and 21 of the
- * state's list, then 10, 11 and 21 of the vector, then 22. The mark is
- * DIKDUMAR_UNDER_WAY, or DIKDUMAR_REFUSED, and then the state is handed back as
- * it came. Where the vector is added, it stands after the list, list_length goes
- * up by n and s by one, and nothing else changes.
+ * state's list, then 10, 11 and 21 of the vector, then 22. Row and products are 0
+ * except in this answer:
+ *
+ *     number  row       products
+ *        0    next row  those so far
+ *
+ * The mark is DIKDUMAR_UNDER_WAY, or DIKDUMAR_REFUSED, and then the state is
+ * handed back as it came. Where the vector is added, it stands after the list,
+ * list_length goes up by n and s by one, and nothing else changes.
  */
 dikdumar_run_answer dikdumar_run_add(dikdumar_run run, const uint32_t *vector, size_t vector_length);
 

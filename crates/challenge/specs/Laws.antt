@@ -8,6 +8,7 @@
 --   Vectors    all vectors of a list
 --   Checks     the whole check (C1)
 --   Single     one row by itself
+--   Lengthened   a list with a vector at its end
 --   Kinds      the check without a bias, and with one (B3)
 --   Rounding   the check with the rounding number 0 (O3)
 pub mod Lists
@@ -18,5 +19,6 @@ pub mod Sides
 pub mod Vectors
 pub mod Checks
 pub mod Single
+pub mod Lengthened
 pub mod Kinds
 pub mod Rounding

@@ -149,8 +149,16 @@ fn decode_row(
     let columns = RECORD * (setting.columns as usize);
     let entries = records(ticket::part(setting, ticket, PartNumber::A), inner, row);
     ticket::shifted_entries(entries, Residue(setting.bound), a);
-    let quotients = records(ticket::part(setting, ticket, PartNumber::QUOTIENTS), columns, row);
-    let remainders = records(ticket::part(setting, ticket, PartNumber::REMAINDERS), columns, row);
+    let quotients = records(
+        ticket::part(setting, ticket, PartNumber::QUOTIENTS),
+        columns,
+        row,
+    );
+    let remainders = records(
+        ticket::part(setting, ticket, PartNumber::REMAINDERS),
+        columns,
+        row,
+    );
     ticket::lifted_claims(quotients, remainders, half, setting.scale, w);
 }
 

@@ -19,6 +19,7 @@
 --   Kinds         settings without a bias, and with one (B1, B3); where test 19 stands (O1)
 --   Rounding      settings whose rounding number is 0 (O3)
 --   Widths        a setting with another width (Q1)
+--   Vectors       a setting with another number of vectors
 pub mod First
 pub mod Scans
 pub mod Answers
@@ -38,3 +39,4 @@ pub mod Decodes
 pub mod Kinds
 pub mod Rounding
 pub mod Widths
+pub mod Vectors

@@ -5,6 +5,7 @@ ghost use Prim.Native.Nat.{_+_, _*_, min};
 ghost use Rattle.ticket.specs.Rules.{unless, sizesWithin, numbersWithin, biasWithin, roundingWithin, within};
 ghost use Rattle.ticket.specs.Rules.{biasBound, biasColumns, part, partSize, start, ticketLength, halfRange, sumProducts};
 ghost use Rattle.ticket.specs.Laws.Limits.{Sizes, Numbers, Clamped, clamped, fitsBy, numberBy};
+ghost use Rattle.ticket.specs.Laws.Vectors.{vectored};
 ghost use Rattle.ticket.specs.Laws.Widths.{widened};
 use crate::parts::RECORD;
 use residue::Residue;
@@ -93,6 +94,14 @@ impl Setting {
         ensures { λ r. ⌜ r ≡ widened self width ⌝ }
     {
         self.width = width;
+        self
+    }
+
+    // The setting with another number of vectors.
+    pub fn with_vectors(mut self, vectors: u32) -> Setting
+        ensures { λ r. ⌜ r ≡ vectored self vectors ⌝ }
+    {
+        self.vectors = vectors;
         self
     }
 

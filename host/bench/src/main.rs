@@ -7,7 +7,7 @@
 //! in memory, with nothing read or tested, and of the full check, the product.
 //! Parts of calls are set beside kernels, loops that do the same work as fast as
 //! every x86-64 processor can. Calls on bias tickets are set beside those on plain
-//! tickets of the same operands.
+//! tickets of the same operands, and checks by steps beside whole ones.
 //!
 //! All are timed in turns, so that whatever else the machine does falls on all;
 //! as it can only lengthen a time, the least time over the rounds is taken.
@@ -15,6 +15,7 @@
 #[cfg(flint)]
 mod flint;
 mod kernels;
+mod runs;
 mod straightforward;
 mod table;
 #[cfg(test)]
@@ -26,6 +27,7 @@ use std::hint::black_box;
 use std::time::{Duration, Instant};
 
 use dikdumar::{Answer, BiasSetting, Setting};
+use runs::Runs;
 use table::{Bias, Call, Part, Table};
 
 /// How long the rounds go on.
@@ -270,6 +272,7 @@ struct Plan {
     write_ticket: Vec<Number>,
     parts: Option<Parts>,
     bias: BiasCalls,
+    runs: Runs,
 }
 
 /// The library's calls on a bias ticket, with the products that each counts.
@@ -343,6 +346,7 @@ impl Plan {
             write_ticket,
             parts: kernels::fit(input.setting).then(|| Parts::new(input, clock)),
             bias: BiasCalls::new(input, clock),
+            runs: Runs::new(input, clock),
         }
     }
 
@@ -364,6 +368,7 @@ impl Plan {
             parts.lines(self, input, clock, table);
         }
         self.bias.lines(self, input, clock, table);
+        self.runs.lines(self, input, clock, table);
     }
 }
 

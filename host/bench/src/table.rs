@@ -14,6 +14,7 @@ pub struct Table {
     pub calls: Vec<Call>,
     pub parts: Vec<Part>,
     pub bias: Vec<Bias>,
+    pub stepped: Vec<Stepped>,
 }
 
 /// A whole call.
@@ -67,6 +68,29 @@ impl Bias {
     }
 }
 
+/// A challenge check by steps.
+pub struct Stepped {
+    pub size: String,
+    pub vectors: u32,
+    pub steps: u32,
+    /// Nanoseconds of all steps, of reading the ticket once, and of the whole check.
+    pub run: f64,
+    pub reading: f64,
+    pub check: f64,
+}
+
+impl Stepped {
+    /// Nanoseconds of a step.
+    fn step(&self) -> f64 {
+        self.run / f64::from(self.steps)
+    }
+
+    /// What the steps cost beside reading the ticket at each, over the whole check.
+    fn ratio(&self) -> f64 {
+        (self.run - f64::from(self.steps) * self.reading) / self.check
+    }
+}
+
 impl Display for Table {
     fn fmt(&self, f: &mut Formatter) -> Result {
         write!(f, "| Size | s | Call | Library, µs |")?;
@@ -104,6 +128,17 @@ impl Display for Table {
             let (time, whole, product) = (call.time / 1000.0, call.time / call.plain, call.ratio());
             write!(f, "| {} | {vectors} | {} |", call.size, call.name)?;
             writeln!(f, " {time:.3} | {whole:.2} | {product:.2} |")?;
+        }
+        writeln!(f)?;
+        writeln!(
+            f,
+            "| Size | s | Steps | Steps, µs | Step, µs | Reading, µs | (Steps - readings) / challenge check |"
+        )?;
+        writeln!(f, "|---|---|---:|---:|---:|---:|---:|")?;
+        for run in &self.stepped {
+            let [all, step, reading] = [run.run, run.step(), run.reading].map(|time| time / 1000.0);
+            write!(f, "| {} | {} | {} | {all:.3} |", run.size, run.vectors, run.steps)?;
+            writeln!(f, " {step:.3} | {reading:.3} | {:.2} |", run.ratio())?;
         }
 
         writeln!(f)?;

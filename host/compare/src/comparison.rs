@@ -174,7 +174,7 @@ impl Display for Difference<'_> {
 const LONGEST_TICKET: usize = 512;
 const LONGEST_OPERAND: usize = 64;
 
-fn write_ticket(f: &mut Formatter, ticket: &[u8]) -> fmt::Result {
+pub fn write_ticket(f: &mut Formatter, ticket: &[u8]) -> fmt::Result {
     writeln!(f, "  ticket: {} bytes", ticket.len())?;
     if ticket.len() <= LONGEST_TICKET {
         for (index, record) in ticket.chunks(8).enumerate() {
@@ -209,7 +209,7 @@ fn first_other_byte(buffer: &[u8], right: &[u8]) -> Option<String> {
 }
 
 /// An answer as the program prints it.
-fn line(answer: &Answer) -> String {
+pub fn line(answer: &Answer) -> String {
     let Answer {
         number,
         place,

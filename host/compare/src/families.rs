@@ -3,18 +3,18 @@
 mod bias;
 mod claims;
 pub mod craft;
-mod damage;
-mod examples;
-mod extremes;
-mod false_tickets;
-mod lengths;
-mod lists;
-mod random;
+pub mod damage;
+pub mod examples;
+pub mod extremes;
+pub mod false_tickets;
+pub mod lengths;
+pub mod lists;
+pub mod random;
 pub mod rounding;
 pub mod settings;
-mod true_tickets;
+pub mod true_tickets;
 pub mod writer;
-mod zeros;
+pub mod zeros;
 
 use crate::cases::{Cases, Family};
 use crate::setting::Form;

@@ -6,10 +6,12 @@ mod begin;
 mod craft;
 mod difference;
 mod examples;
-mod refusals;
+mod extremes;
 mod lent;
 mod random;
+mod refusals;
 mod sets;
+mod sides;
 mod stated;
 mod states;
 mod whole;
@@ -18,15 +20,18 @@ use apart::{Mark, Run, RunAnswer};
 use digests::Digest;
 
 use crate::cases::{self, Kind};
-use crate::comparison::Outcome;
+use crate::comparison::{line, Outcome};
 use crate::setting::Setting;
 
 use craft::Lent;
 use difference::{words, Difference};
+use sides::Sides;
+
+pub use sides::SIDES;
 
 /// A call, with what is handed to it.
 #[derive(Clone, Copy, Debug)]
-enum Call<'a> {
+pub enum Call<'a> {
     Begin {
         setting: Setting,
         ticket: &'a [u8],
@@ -130,23 +135,33 @@ pub struct Family {
     cases: Cases,
 }
 
-const FAMILIES: [(&str, Cases); 20] = [
+const FAMILIES: [(&str, Cases); 21] = [
     ("examples of runs", examples::examples),
-    ("whole runs of every small size, additions at every place", whole::small_sizes),
+    (
+        "whole runs of every small size, additions at every place",
+        whole::small_sizes,
+    ),
     ("whole runs caught in every vector and row", whole::caught_everywhere),
     ("whole runs of false tickets, hidden by some vectors", whole::hidden),
     ("whole runs of the largest size, up to eight vectors", whole::largest),
-    ("begin of a run, and all that a challenge check refuses", begin::refusals),
+    (
+        "begin of a run, and all that a challenge check refuses",
+        begin::refusals,
+    ),
     ("begin of a run, and what its state holds", begin::states),
     ("states of a run at t and row in and beyond their ends", states::places),
     ("states of a run with lists of other lengths", states::list_lengths),
     ("states of a run with any list numbers", states::list_numbers),
     ("states of a run with any numbers in u", states::products),
+    ("runs with extreme entries, claims and numbers", extremes::numbers),
     ("tickets lent to a run", lent::tickets),
     ("runs with every sequence of tickets", lent::sequences),
     ("vectors added to a run", lent::vectors),
     ("settings of a run at and beyond each limit", refusals::limits),
-    ("settings of a run with two numbers at or beyond their limits", refusals::pairs_of_limits),
+    (
+        "settings of a run with two numbers at or beyond their limits",
+        refusals::pairs_of_limits,
+    ),
     ("several refusals of a run at once", sets::several),
     ("states of a run handed back by a refusal", refusals::handed_back),
     ("random runs", random::runs),
@@ -156,75 +171,6 @@ const FAMILIES: [(&str, Cases); 20] = [
 /// All families, in the order of digests.txt.
 pub fn all() -> Vec<Family> {
     FAMILIES.map(|(name, cases)| Family { name, cases }).into()
-}
-
-/// What answers, on one side of the comparison.
-type Side = fn(&Call) -> RunAnswer;
-
-/// Both sides, each with the side whose challenge check its runs are held to.
-#[derive(Clone, Copy)]
-pub struct Sides {
-    library: (Side, cases::Side),
-    apart: (Side, cases::Side),
-}
-
-pub const SIDES: Sides = Sides {
-    library: (library, cases::library),
-    apart: (apart, cases::apart),
-};
-
-fn library(call: &Call) -> RunAnswer {
-    let taken = |setting: &Setting| dikdumar::Setting::from(setting.numbers());
-    let of_library = |run: &Run| dikdumar::Run {
-        setting: taken(&Setting::plain(run.setting)),
-        list: run.list,
-        list_length: run.list_length,
-        vector: run.vector,
-        row: run.row,
-        u: run.u,
-        caught: run.caught,
-    };
-    let told = match *call {
-        Call::Begin { setting, ticket, list } => dikdumar::run_begin(taken(&setting), ticket, list),
-        Call::Step { run, ticket } => dikdumar::run_step(of_library(run), ticket),
-        Call::Add { run, vector } => dikdumar::run_add(of_library(run), vector),
-    };
-    let dikdumar::Setting {
-        rows,
-        inner,
-        columns,
-        vectors,
-        scale,
-        bound,
-        width,
-        rounding,
-    } = told.run.setting;
-    RunAnswer {
-        run: Run {
-            setting: [rows, inner, columns, vectors, scale, bound, width, rounding].into(),
-            list: told.run.list,
-            list_length: told.run.list_length,
-            vector: told.run.vector,
-            row: told.run.row,
-            u: told.run.u,
-            caught: told.run.caught,
-        },
-        mark: match told.mark {
-            dikdumar::Mark::UnderWay => Mark::UnderWay,
-            dikdumar::Mark::Caught => Mark::Caught,
-            dikdumar::Mark::Complete => Mark::Complete,
-            dikdumar::Mark::Refused => Mark::Refused,
-        },
-        answer: told.answer.numbers().into(),
-    }
-}
-
-fn apart(call: &Call) -> RunAnswer {
-    match *call {
-        Call::Begin { setting, ticket, list } => apart::run_begin(&setting.numbers().into(), ticket, list),
-        Call::Step { run, ticket } => apart::run_step(run, ticket),
-        Call::Add { run, vector } => apart::run_add(run, vector),
-    }
 }
 
 /// Compares the two sides on every case of a family.
@@ -293,8 +239,9 @@ impl Case<'_> {
         });
         (checked.answer != told.answer).then(|| {
             format!(
-                "the run ends with {:?}, and the challenge check says {:?}",
-                told.answer, checked.answer
+                "the run ends with {}, and the challenge check says {}",
+                line(&told.answer),
+                line(&checked.answer)
             )
         })
     }

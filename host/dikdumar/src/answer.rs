@@ -40,14 +40,14 @@
 #[derive(Clone, Copy, Debug, PartialEq, Eq)]
 pub struct Answer {
     /// What was found: 0 when the ticket is accepted, with the list where there
-    /// is one, or is written.
+    /// is one, or is written; of a run also while it is under way.
     pub number: u32,
     /// Where it was found, or how long the written ticket is in bytes. Records,
     /// list numbers, vectors, operands and claims count from 0; operands are
     /// counted on from A into B and from B into the bias, claims row by row.
     pub place: u32,
-    /// The row at which the ticket was caught by a challenge check, from 0; 0
-    /// for every other number.
+    /// The row at which the ticket was caught by a challenge check, from 0, or of
+    /// a run under way the next row; else 0.
     pub row: u32,
     /// The products counted.
     pub products: u32,

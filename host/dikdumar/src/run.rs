@@ -39,7 +39,7 @@ use crate::{library, Answer, Setting};
 pub struct Run {
     /// The setting. Its s counts the vectors of the list, and an addition raises it.
     pub setting: Setting,
-    /// The vectors one after another.
+    /// The vectors one after another. Past `list_length` it is not read.
     pub list: [u32; 256],
     /// How many numbers of it are the list. A step and an addition refuse any other
     /// than s·n as 10, so one above 256 too.
@@ -48,8 +48,8 @@ pub struct Run {
     pub vector: u32,
     /// The next row, from 0.
     pub row: u32,
-    /// B times vector t, from that vector's first row on: m numbers. A step takes
-    /// each of them modulo p.
+    /// B times vector t, from that vector's first row on. A step takes each number
+    /// modulo p, and reads none past m.
     pub u: [u32; 64],
     /// 0 where the run is not caught. Any other number says that it is, in vector t
     /// and row.
@@ -62,9 +62,9 @@ pub struct Run {
 pub enum Mark {
     /// There is a next row.
     UnderWay = 0,
-    /// The two sides of a row differ, so the ticket is false.
+    /// The two sides of a row differ.
     Caught = 1,
-    /// Every row of every vector is made.
+    /// No row is left.
     Complete = 2,
     /// A test fails, and the answer has its number.
     Refused = 3,

@@ -16,13 +16,16 @@
 --   list-numbers, list-vectors   a list of the right length by the answers of the tests 11 and 21
 --   first-large           the first number that is not a least residue is refused by 11
 --   first-zero            where there is none, the first vector of zeros is refused by 21
+--   none-zero             where there is none of either, the list passes
 --   all-nonzero           a list of numbers from 1 to p - 1 passes
+--   ListAnswer G x a, list-answered   the condition of the answer a of these tests, no earlier one failing; it holds for the answer of the list
+--   list-place            its place is at most that of a number or vector past the last
 use Prim.Native.Nat.{ℕ, _+_, _-_, _*_, _≤_, _<_}
 use native.Mathlib.Decide.{ℕ-discrete, decLe}
 use native.Mathlib.Omega.{arith}
-use mathlib.Core.Path.{_≡_, refl, sym, ap, _∙_}
+use mathlib.Core.Path.{_≡_, refl, sym, ap, subst, _∙_}
 use mathlib.Core.Bool.{Bool, true}
-use mathlib.Core.Logic.{_↔_}
+use mathlib.Core.Logic.{⊎-elim, _↔_}
 use mathlib.Core.List.{List}
 use borrow.Author.Tests.{eq-eqb, ne-eqb, eqb-true, lt-ltb, le-ltb}
 use lib.Arith.{digits-lt}
@@ -39,7 +42,7 @@ use Rattle.ticket.specs.Laws.All.{all, all-at}
 use Rattle.ticket.specs.Laws.Answers.{unless-zero, after-zero, scan-zero, first-past}
 use Rattle.ticket.specs.Laws.First.{first-within, first-cong}
 use Rattle.ticket.specs.Laws.Limits.{within-both}
-use Rattle.ticket.specs.Laws.Scans.{refusal-none, refusal-is, after-first, after-second}
+use Rattle.ticket.specs.Laws.Scans.{refusal-none, refusal-is, zeros-or-first, after-first, after-second}
 use Rattle.challenge.specs.Rules.{challengeAt, WellFormed, listNumber, firstNonzero, vectorNumber, listReading}
 
 module _ (x : List ℕ) (k : ℕ) where
@@ -193,7 +196,7 @@ module _ (G : Setting) (x : List ℕ) where
       first-zero τ l before z =
           list-vectors least refl (vectors-refused G x l (λ σ m. vector-other G x σ .1 (before σ m)) (vector-zero G x τ z))
 
-      none-zero : ((τ : ℕ) → τ < G .vectors → ZeroVector G x τ → ⊥) → refusal 0 0 ≡ listReading G x
+      pub none-zero : ((τ : ℕ) → τ < G .vectors → ZeroVector G x τ → ⊥) → refusal 0 0 ≡ listReading G x
       none-zero other =
           list-vectors least refl (sym (refusal-none 0 (G .vectors) (vectorNumber G x) (λ τ l. vector-other G x τ .1 (other τ l))))
 
@@ -204,3 +207,51 @@ module _ (G : Setting) (x : List ℕ) where
       where
         nonzero : (k : ℕ) → k < count → (1 ≤ getD x k 0) × (getD x k 0 ≤ modulus - 1)
         nonzero k l = within-both (all-at (length x) (nonzeroResidue x) each k (omega arith))
+
+pub data ListAnswer (G : Setting) (x : List ℕ) : Answer → Type 0 where
+  other-count : (length x ≡ G .vectors * G .columns → ⊥) → ListAnswer G x (refusal 10 0)
+  large-number : {k : ℕ} → length x ≡ G .vectors * G .columns → k < G .vectors * G .columns → ((i : ℕ) → i < k → getD x i 0 < modulus)
+      → modulus ≤ getD x k 0 → ListAnswer G x (refusal 11 k)
+  zero-at : {τ : ℕ} → length x ≡ G .vectors * G .columns → ((k : ℕ) → k < G .vectors * G .columns → getD x k 0 < modulus)
+      → τ < G .vectors → ((σ : ℕ) → σ < τ → ZeroVector G x σ → ⊥) → ZeroVector G x τ → ListAnswer G x (refusal 21 τ)
+  formed : Entries G x → ListAnswer G x (refusal 0 0)
+
+module _ (G : Setting) (x : List ℕ) where
+  -- a list of the right length, of least residues
+  vectors-answered : length x ≡ G .vectors * G .columns → ((k : ℕ) → k < G .vectors * G .columns → getD x k 0 < modulus)
+      → ListAnswer G x (listReading G x)
+  vectors-answered e all =
+      ⊎-elim
+      (λ z. let other : (τ : ℕ) → τ < G .vectors → ZeroVector G x τ → ⊥ = λ τ l. vector-other G x τ .0 (z τ l) in
+      subst (ListAnswer G x) (none-zero G x e all other) (formed record { size = e; below = all; other = other }))
+      (λ o. let τ = o .0 in
+      let at = o .1 in
+      let before : (σ : ℕ) → σ < τ → ZeroVector G x σ → ⊥ = λ σ l. vector-other G x σ .0 (at .before σ l) in
+      let here = vector-refused G x τ (at .other) in
+      subst (ListAnswer G x) (first-zero G x e all τ (at .within) before here) (zero-at e all (at .within) before here))
+      (zeros-or-first (G .vectors) (vectorNumber G x))
+
+  pub list-answered : ListAnswer G x (listReading G x)
+  list-answered =
+      elim (ℕ-discrete (length x) (G .vectors * G .columns)) [
+        | no d ↦ subst (ListAnswer G x) (other-length G x d) (other-count d)
+        | yes e ↦
+            ⊎-elim
+            (λ z. vectors-answered e (λ k l. number-least x k .0 (z k l)))
+            (λ o. let k = o .0 in
+            let at = o .1 in
+            let before : (i : ℕ) → i < k → getD x i 0 < modulus = λ i l. number-least x i .0 (at .before i l) in
+            let large : modulus ≤ getD x k 0 =
+            elim (decLe modulus (getD x k 0)) [ yes m ↦ m | no m ↦ absurd (at .other (number-least x k .1 (omega arith))) ] in
+            subst (ListAnswer G x) (first-large G x e k (at .within) before large) (large-number e (at .within) before large))
+            (zeros-or-first (G .vectors * G .columns) (listNumber x))
+      ]
+
+  pub list-place : listReading G x .place ≤ G .vectors * G .columns + G .vectors
+  list-place = at-most list-answered
+    where
+      at-most : {a : Answer} → ListAnswer G x a → a .place ≤ G .vectors * G .columns + G .vectors
+      at-most (other-count d) = omega arith
+      at-most (large-number e l h m) = omega arith
+      at-most (zero-at e all l h z) = omega arith
+      at-most (formed h) = omega arith

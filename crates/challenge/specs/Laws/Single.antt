@@ -9,20 +9,21 @@
 --   bias-inside, single-sides   then the two sides can be compared
 --   single-balanced    and are equal exactly when the row is balanced
 --   balanced-cong      whether a row is balanced depends on the numbers of its vector, and of what it takes for the product
---   product-cong       so does u, made anew at row 0
+--   product-same, product-cong   so do the product, and u, made anew at row 0
 --   listed-long, listed-at, filled-listed   a list by its elements; a list of which the first elements are filled so
 --   line-matrix, product-first, product-later   the product can be made; u as the code makes it
 --   residues-kept      the numbers that a row takes are least residues
 --   line-ready, line-numbers   the vector, widened, is ready for its row, and its numbers are those of the list
 --   row-made           what the code makes of a row
 --   row-ready, row-checked, row-refused, row-beyond   the answer of a row by the tests, and by whether there is one
+--   checked-refused, checked-made   of a row that is there: where the tests refuse, the answer is theirs, else it is that of the row
 use Prim.Native.Nat.{ℕ, zero, suc, _+_, _-_, _*_, _%_, _^_, _≤_, _<_}
 use native.Mathlib.Decide.{ℕ-discrete, decLt}
 use native.Mathlib.Nat.{mod-eq-of-lt, mod-lt}
 use native.Mathlib.Omega.{arith}
 use mathlib.Core.Path.{_≡_, refl, sym, ap, _∙_}
 use mathlib.Core.Bool.{Bool, true, false, _&&_, and-false}
-use mathlib.Core.Logic.{_⊎_, ⊎-elim}
+use mathlib.Core.Logic.{_⊎_, inl, inr, ⊎-elim}
 use mathlib.Core.List.{List, [], _∷_, _++_}
 use borrow.Author.Tests.{eq-eqb, ne-eqb, lt-ltb, le-ltb}
 use lib.Dec.{eqb, ltb}
@@ -174,14 +175,14 @@ module _ (G : Setting) (t x y : List ℕ) (τ σ : ℕ) (same : (j : ℕ) → j 
         sumℤ-cong (G .inner) (λ k. entryA G t i k *ℤ pos (f k)) (λ k. entryA G t i k *ℤ pos (g k)) (λ k l. ap (λ n. entryA G t i k *ℤ pos n) (alike k l)),
       )
 
-  products-same : (k : ℕ) → productB G t x τ k ≡ productB G t y σ k
+  pub product-same : (k : ℕ) → productB G t x τ k ≡ productB G t y σ k
   unfolding productB
-  products-same k =
+  product-same k =
       ap (leastResidue modulus) (sumℤ-cong (G .columns) _ _ (λ j l. ap (λ n. entryB G t k j *ℤ pos n) (same j l)))
 
   pub product-cong : (i : ℕ) (u : List ℕ) → productAt G t x τ i u ≡ productAt G t y σ i u
   unfolding productAt
-  product-cong i u = rw (listed-cong (G .inner) (productB G t x τ) (productB G t y σ) products-same)
+  product-cong i u = rw (listed-cong (G .inner) (productB G t x τ) (productB G t y σ) product-same)
 
 -- the product
 
@@ -281,3 +282,20 @@ module _ (G : Setting) (t x : List ℕ) (τ i : ℕ) {a : Answer} (a-is : a ≡ 
       (λ l. not-made u (rw (le-ltb τ (G .vectors) l) (and-false (eqb (testing G t x .number) 0))) r-is)
       (λ l. not-made u (rw (le-ltb i (G .rows) l, and-false (ltb τ (G .vectors))) (and-false (eqb (testing G t x .number) 0))) r-is)
       beyond
+
+-- of a row that is there
+
+module _ (G : Setting) (t x : List ℕ) (τ i : ℕ) (u : List ℕ) (vector : τ < G .vectors) (row : i < G .rows)
+    {r : RowAnswer} (r-is : r ≡ rowCheck G t x τ i u) where
+  by-tests : ((testing G t x .number ≡ 0) × (r ≡ rowMade G t x τ i u)) ⊎ ((testing G t x .number ≡ 0 → ⊥) × (r ≡ noRow (testing G t x) u))
+  by-tests =
+      elim (ℕ-discrete (testing G t x .number) 0) [
+        | yes z ↦ inl (z, r-is ∙ sym (row-checked G t x τ i refl z vector row u refl))
+        | no d ↦ inr (d, r-is ∙ sym (row-refused G t x τ i refl u d refl))
+      ]
+
+  pub checked-refused : (r .tested .number ≡ 0 → ⊥) → r .tested ≡ testing G t x
+  checked-refused d = ⊎-elim (λ h. absurd (d (ap (λ q. q .tested .number) (h .1)))) (λ h. ap (λ q. q .tested) (h .1)) by-tests
+
+  pub checked-made : r .tested .number ≡ 0 → (testing G t x .number ≡ 0) × (r ≡ rowMade G t x τ i u)
+  checked-made z = ⊎-elim (λ h. h) (λ h. absurd (h .0 (sym (ap (λ q. q .tested .number) (h .1)) ∙ z))) by-tests

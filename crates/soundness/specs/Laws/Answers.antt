@@ -13,7 +13,6 @@
 --   caught-exactly      the answer is caught G τ i exactly when row i of vector τ is the first that does not balance
 --   answer-in-table     every answer is a row of the table
 use Prim.Native.Nat.{ℕ, _*_, _≤_, _<_}
-use native.Mathlib.Decide.{ℕ-discrete, decLe}
 use native.Mathlib.Omega.{arith}
 use mathlib.Core.Path.{_≡_, refl, sym, ap, _∙_}
 use mathlib.Core.Bool.{true, false, true≢false}
@@ -29,11 +28,11 @@ use Rattle.ticket.specs.Rules.{answer, refusal, Passes}
 use Rattle.ticket.specs.Laws.Answers.{first-past}
 use Rattle.ticket.specs.Laws.First.{first-is, FirstFailure, holds-or-first}
 use Rattle.ticket.specs.Laws.Tests.{reading-not-later}
-use Rattle.ticket.specs.Laws.Scans.{scan-none, scan-is, zeros-or-first}
+use Rattle.ticket.specs.Laws.Scans.{scan-none, scan-is}
 use Rattle.ticket.specs.Laws.Refusals.{Refused, passed-reading, passed-or-refused, refused-reading, refused-number, ReadingRow, refused-in-table}
-use Rattle.challenge.specs.Rules.{challengeProducts, caughtProducts, listNumber, vectorNumber, WellFormed, balanced, firstRow, accepted, caught, verdict, challengeCheck, Accepted}
+use Rattle.challenge.specs.Rules.{challengeProducts, caughtProducts, WellFormed, balanced, firstRow, accepted, caught, verdict, challengeCheck, Accepted}
 use Rattle.challenge.specs.Laws.Checks.{check-ticket, check-list, check-rows}
-use Rattle.challenge.specs.Laws.Lists.{number-least, ZeroVector, vector-other, vector-refused, well-formed-is, other-length, first-large, first-zero}
+use Rattle.challenge.specs.Laws.Lists.{ZeroVector, well-formed-is, other-length, first-large, first-zero, ListAnswer, other-count, large-number, zero-at, formed, list-answered}
 
 pub data TableRow (G : Setting) : Answer → Type 0 where
   accepted-row : TableRow G (answer 0 0 0 (challengeProducts G))
@@ -122,32 +121,16 @@ module _ (G : Setting) (t x : List ℕ) where
       ))
       (holds-or-first (G .vectors) (λ τ. eqb (firstRow G t x τ) (G .rows)))
 
-  -- a list of the right length, of least residues
-  answered-numbers : Passes G t → length x ≡ G .vectors * G .columns → ((k : ℕ) → k < G .vectors * G .columns → getD x k 0 < modulus)
-      → (a : Answer) × Answered G t x a
-  answered-numbers p e all =
-      ⊎-elim
-      (λ z. answered-vectors p (well-formed-is G x .1 record { size = e; below = all; other = λ τ l. vector-other G x τ .0 (z τ l) }))
-      (λ o. (refusal 21 (o .0), zero-vector p e all (o .1 .within) (λ σ l. vector-other G x σ .0 (o .1 .before σ l)) (vector-refused G x (o .0) (o .1 .other))))
-      (zeros-or-first (G .vectors) (vectorNumber G x))
-
-  answered-list : Passes G t → (a : Answer) × Answered G t x a
-  answered-list p =
-      elim (ℕ-discrete (length x) (G .vectors * G .columns)) [
-        | no d ↦ (refusal 10 0, list-length p d)
-        | yes e ↦
-            ⊎-elim
-            (λ z. answered-numbers p e (λ k l. number-least x k .0 (z k l)))
-            (λ o. let k = o .0 in
-            let large : modulus ≤ getD x k 0 =
-            elim (decLe modulus (getD x k 0)) [ yes m ↦ m | no m ↦ absurd (o .1 .other (number-least x k .1 (omega arith))) ] in
-            (refusal 11 k, list-number p e (o .1 .within) (λ i l. number-least x i .0 (o .1 .before i l)) large))
-            (zeros-or-first (G .vectors * G .columns) (listNumber x))
-      ]
+  -- by the tests of the list
+  answered-list : Passes G t → {a : Answer} → ListAnswer G x a → (b : Answer) × Answered G t x b
+  answered-list p (other-count d) = (refusal 10 0, list-length p d)
+  answered-list p (large-number {k} e l h m) = (refusal 11 k, list-number p e l h m)
+  answered-list p (zero-at {τ} e a l h z) = (refusal 21 τ, zero-vector p e a l h z)
+  answered-list p (formed entries) = answered-vectors p (well-formed-is G x .1 entries)
 
   pub answered : (a : Answer) × Answered G t x a
   answered =
-      ⊎-elim (λ p. answered-list (ap (λ a. a .number) (passed-reading G t p))) (λ r. (refusal (r .0) (r .1), refused (r .2)))
+      ⊎-elim (λ p. answered-list (ap (λ a. a .number) (passed-reading G t p)) (list-answered G x)) (λ r. (refusal (r .0) (r .1), refused (r .2)))
       (passed-or-refused G t)
 
   pub answer-exactly : (a : Answer) → (challengeCheck G t x ≡ a) ↔ Answered G t x a

@@ -23,7 +23,7 @@
 --   range-double           twice that half times the scale, as the fit has it
 --   lift-small             the lift, and the largest size of a sum, are together below p, where the setting fits
 --   bias-small             and so is twice the bound of its bias
---   renumbered G v o       the setting G with another width and rounding number
+--   renumbered G s v o     the setting G with another number of vectors, width and rounding number
 --   clamped G              the setting with no size, scale or width above its limit
 --   clamped-same           that is the setting itself, where it is within its limits
 --   fitsBy G h, numberBy G h   the fit and the number of the setting, where h is put for half of the quotients' range
@@ -211,13 +211,13 @@ lift-small numbers fitted = omega (arith, range-double numbers, fitted, numbers 
 pub bias-small : {G : Setting} → Numbers G → Fitted G → 2 * biasBound G < modulus
 bias-small numbers fitted = omega (arith, range-double numbers, fitted, numbers .scale)
 
-abbrev pub renumbered : Setting → ℕ → ℕ → Setting
-renumbered G v o =
+abbrev pub renumbered : Setting → ℕ → ℕ → ℕ → Setting
+renumbered G s v o =
     record {
       rows = G .rows;
       inner = G .inner;
       columns = G .columns;
-      vectors = G .vectors;
+      vectors = s;
       scale = G .scale;
       bound = G .bound;
       width = v;

@@ -46,7 +46,7 @@ module _ (G : Setting) (none : G .rounding ≡ 0) where
       ap (λ z. z -ℤ pos (G .rounding)) (sym (unrounded-dividend made)) ∙ +ℤ-negℤ-cancel made (pos (G .rounding))
 
 abbrev pub rounded : Setting → ℕ → Setting
-rounded G o = renumbered G (G .width) o
+rounded G o = renumbered G (G .vectors) (G .width) o
 
 pub record Unread (G : Setting) (o : ℕ) : Type 0 where
   pub layout : part (rounded G o) ≡ part G

@@ -19,7 +19,7 @@ use Rattle.ticket.specs.Rules.{test, firstFailed, mostWidth, sizesWithin
 use Rattle.ticket.specs.Laws.Limits.{renumbered}
 
 abbrev pub widened : Setting → ℕ → Setting
-widened G v = renumbered G v (G .rounding)
+widened G v = renumbered G (G .vectors) v (G .rounding)
 
 pub record Unread (G : Setting) (v : ℕ) : Type 0 where
   pub limits : limitTests (widened G v) ≡ limitTests G
