@@ -8,7 +8,10 @@ ghost use Rattle.challenge.specs.Rules.{challengeCheck};
 ghost use Rattle.full.specs.Rules.{fullCheck};
 ghost use Rattle.writer.specs.Rules.{outputAfter, writing};
 ghost use Rattle.quote.specs.Rules.{quoteOf};
+ghost use Rattle.run.specs.Rules.{adding, beginning, stepping};
 use quote::Quote;
+use run::Run;
+use run::RunAnswer;
 use ticket::Answer;
 use ticket::BiasSetting;
 use ticket::PlainSetting;
@@ -92,6 +95,31 @@ pub extern "C" fn dikdumar_quote_bias_ticket(setting: BiasSetting) -> Quote
     ensures { λ r. ⌜ r ≡ quoteOf (withBias (setting .setting) (setting .bias)) ⌝ }
 {
     quote::quote_of(setting.biased())
+}
+
+#[no_mangle]
+pub extern "C" fn dikdumar_run_begin(
+    setting: PlainSetting,
+    ticket: &[u8],
+    list: &[u32],
+) -> RunAnswer
+    ensures { λ r. ⌜ r ≡ beginning setting (now (ticket .entry)) (now (list .entry)) ⌝ }
+{
+    Run::begin(setting, ticket, list)
+}
+
+#[no_mangle]
+pub extern "C" fn dikdumar_run_step(state: Run, ticket: &[u8]) -> RunAnswer
+    ensures { λ r. ⌜ r ≡ stepping state (now (ticket .entry)) ⌝ }
+{
+    state.step(ticket)
+}
+
+#[no_mangle]
+pub extern "C" fn dikdumar_run_add(state: Run, vector: &[u32]) -> RunAnswer
+    ensures { λ r. ⌜ r ≡ adding state (now (vector .entry)) ⌝ }
+{
+    state.add(vector)
 }
 
 // The full check of both kinds. The setting is made here, of the numbers as they came, and the slice anew, so that the compiler copies

@@ -106,7 +106,7 @@ pub fn products(visit: &mut Visitor) {
 fn visit_products(visit: &mut Visitor, generator: &mut Generator, handed: &Handed, right: &Run) {
     let (_, ticket) = &handed.tickets[0];
     for index in 0..right.u.len() {
-        // p more is the same modulo p, and fits into 32 bits but for one.
+        // The same modulo p.
         let same = right.u[index].checked_add(P);
         let numbers = [0, 1, P - 1, P, P + 1, 2 * P - 1, 2 * P, u32::MAX];
         for number in numbers.into_iter().chain(same) {
