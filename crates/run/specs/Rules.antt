@@ -21,7 +21,7 @@
 --   moved R u          it on to the next row, after the last to row 0 of the next vector
 --   worked R t         the state after its row: caught where that is not balanced, else moved on
 --   stepping R t       the answer of a step
---   oneMore P          the setting with one vector more
+--   withVectors P s, oneMore P   the setting with s vectors, and with one more than it has
 --   lengthened R v     the state with v at the end of its list
 --   isOpen R           a vector may be added: the run is not finished, and has fewer vectors than the most
 --   additionReading R v   the answer of the tests of an addition: of the setting, of the state's list, of the list that v lengthens, and 22
@@ -144,18 +144,21 @@ stepping R t = tested R (testing (layer R) t (heldList R)) (standing (cond (isFi
 
 -- an addition
 
-abbrev pub oneMore : PlainSetting → PlainSetting
-oneMore P =
+abbrev pub withVectors : PlainSetting → ℕ → PlainSetting
+withVectors P s =
     record {
       rows = P .rows;
       inner = P .inner;
       columns = P .columns;
-      vectors = P .vectors + 1;
+      vectors = s;
       scale = P .scale;
       bound = P .bound;
       width = P .width;
       rounding = P .rounding;
     }
+
+abbrev pub oneMore : PlainSetting → PlainSetting
+oneMore P = withVectors P (P .vectors + 1)
 
 abbrev pub lengthened : Run → List ℕ → Run
 lengthened R v =

@@ -16,6 +16,7 @@
 --   line-ready, line-numbers   the vector, widened, is ready for its row, and its numbers are those of the list
 --   row-made           what the code makes of a row
 --   row-ready, row-checked, row-refused, row-beyond   the answer of a row by the tests, and by whether there is one
+--   product-kept, balanced-kept   with u as its rows keep it, a row is balanced by u exactly when it is
 --   checked-refused, checked-made   of a row that is there: where the tests refuse, the answer is theirs, else it is that of the row
 use Prim.Native.Nat.{ℕ, zero, suc, _+_, _-_, _*_, _%_, _^_, _≤_, _<_}
 use native.Mathlib.Decide.{ℕ-discrete, decLt}
@@ -32,6 +33,7 @@ use lib.ListN.{length, getD, take, drop, length-append, length-drop, List·getD-
 use lib.Seq.{ext-getD, getD-append-add, getD-drop}
 use Rattle.residue.specs.Rules.{modulus, leastResidue}
 use Rattle.residue.specs.Laws.Modulus.{modulus-below, modulus-positive}
+use Rattle.residue.specs.Laws.Residues.{residue-below}
 use Rattle.algebra.specs.Rules.{sumℤ}
 use Rattle.algebra.specs.Laws.Fills.{Filled, lineAt}
 use Rattle.algebra.specs.Laws.IntegerSums.{sumℤ-cong}
@@ -45,7 +47,7 @@ use Rattle.ticket.specs.Laws.Layout.{partBytes, parts-are}
 use Rattle.ticket.specs.Laws.Limits.{clamped, bias-columns-most, lift-made}
 use Rattle.ticket.specs.Laws.Passes.{Passed, passed-of}
 use Rattle.challenge.specs.declared.single.RowAnswer.{RowAnswer}
-use Rattle.challenge.specs.Rules.{challengeAt, listReading, testing, productB, claimSide, operandSideBy, balancedBy, listed, productAt, balancedAt, rowMade, noRow, rowThere, rowCheck}
+use Rattle.challenge.specs.Rules.{challengeAt, listReading, testing, productB, claimSide, operandSideBy, balancedBy, balanced, listed, productAt, balancedAt, rowMade, noRow, rowThere, rowCheck}
 use Rattle.challenge.specs.Laws.Checks.{rows-can}
 use Rattle.challenge.specs.Laws.Products.{ResidueVector, ProductReady, rowsTimes, dot-small, offsetOf, offset-small}
 use Rattle.challenge.specs.Laws.Rows.{SidesReady, rowAnswer, sidesEqual, sides-ready}
@@ -299,3 +301,29 @@ module _ (G : Setting) (t x : List ℕ) (τ i : ℕ) (u : List ℕ) (vector : τ
 
   pub checked-made : r .tested .number ≡ 0 → (testing G t x .number ≡ 0) × (r ≡ rowMade G t x τ i u)
   checked-made z = ⊎-elim (λ h. h) (λ h. absurd (h .0 (sym (ap (λ q. q .tested .number) (h .1)) ∙ z))) by-tests
+
+-- the product, as a row that is made takes it
+
+product-below : (G : Setting) (t x : List ℕ) (τ k : ℕ) → productB G t x τ k < modulus
+unfolding productB
+product-below G t x τ k = residue-below modulus modulus-positive _
+
+product-anew : (G : Setting) (t x : List ℕ) (τ : ℕ) (u : List ℕ) (k : ℕ) → k < G .inner → getD (productAt G t x τ 0 u) k 0 ≡ productB G t x τ k
+unfolding productAt
+product-anew G t x τ u k l =
+    List·getD-append (listed (G .inner) (productB G t x τ)) (drop (G .inner) u) 0 k (omega (arith, listed-long (G .inner) (productB G t x τ)))
+    ∙ listed-at (G .inner) (productB G t x τ) k l
+
+module _ (G : Setting) (t x : List ℕ) (τ i : ℕ) (u : List ℕ) (kept : 0 < i → (k : ℕ) → k < G .inner → getD u k 0 ≡ productB G t x τ k) where
+  pub product-kept : (k : ℕ) → k < G .inner → getD (productAt G t x τ i u) k 0 ≡ productB G t x τ k
+  product-kept k l =
+      elim (ℕ-discrete i 0) [
+        | yes e ↦ rw e (product-anew G t x τ u k l)
+        | no d ↦ ap (λ l. getD l k 0) (sym (product-later G t x τ u d)) ∙ kept (omega arith) k l
+      ]
+
+  pub balanced-kept : balancedAt G t x τ i u ≡ balanced G t x τ i
+  unfolding balancedAt
+  balanced-kept =
+      balanced-cong G t x x τ τ (λ j l. refl) (λ k. getD (productAt G t x τ i u) k 0 % modulus) (productB G t x τ)
+      (λ k l. ap (λ n. n % modulus) (product-kept k l) ∙ mod-eq-of-lt (product-below G t x τ k)) i
