@@ -4,7 +4,7 @@
 --                      once its row 0 is done; where the run is caught, its next row is the first that is not balanced
 --   held-begun, held-lengthened   the list of a state that begins, and of one with a vector more
 --   kept-begun         it holds of a run that begins
---   kept-finished, kept-worked   it holds after a row
+--   kept-worked        it holds after a row
 --   kept-lengthened    and after an addition
 use Prim.Native.Nat.{ℕ, _+_, _-_, _*_, _%_, _≤_, _<_}
 use native.Mathlib.Decide.{ℕ-discrete, decLe, decLt}
@@ -32,9 +32,9 @@ use Rattle.challenge.specs.Laws.Lengthened.{front-product, front-balanced}
 use Rattle.challenge.specs.Laws.Lists.{Entries}
 use Rattle.challenge.specs.Laws.Single.{product-kept, balanced-kept}
 use Rattle.run.specs.declared.Run.{Run}
-use Rattle.run.specs.Rules.{layer, mostNumbers, heldList, isPast, isCaught, isFinished, begun, placed, moved, worked, oneMore, lengthened}
+use Rattle.run.specs.Rules.{layer, mostNumbers, heldList, isPast, isCaught, isFinished, begun, placed, oneMore, lengthened}
 use Rattle.run.specs.Laws.Additions.{Additional, held-long, vector-long, vectors-few, unfinished-open, addition-fits}
-use Rattle.run.specs.Laws.States.{unfinished, not-past, testing-passed}
+use Rattle.run.specs.Laws.States.{unfinished, not-past, testing-passed, Worked, stopped, on-row, on-vector}
 
 abbrev pub Place : Run → Type 0
 Place R = ((R .vector < R .setting .vectors) × (R .row < R .setting .rows)) ⊎ ((R .vector ≡ R .setting .vectors) × (R .row ≡ 0))
@@ -163,18 +163,14 @@ module _ {t : List ℕ} {R : Run} (kept : Kept t R) (going : isFinished R ≡ fa
             let some = there in
             elim (decLt (R .vector + 1) (R .setting .vectors)) [ yes m ↦ inl (m, omega arith) | no m ↦ inr (omega arith, refl) ]
 
-  pub kept-worked : Kept t (worked R t)
-  unfolding worked moved
-  kept-worked =
-      let by-u = balanced-kept G t x (R .vector) (R .row) (R .u) (kept .product) in
-      ⊎-elim
-      (λ e. rw e
-      (elim (decLt (R .row + 1) (R .setting .rows)) [
-        | yes l ↦ rw (lt-ltb (R .row + 1) (R .setting .rows) l) (kept-next (sym by-u ∙ e) l)
-        | no l ↦ rw (le-ltb (R .row + 1) (R .setting .rows) (omega arith)) (kept-over (sym by-u ∙ e) (omega arith))
-      ]))
-      (λ e. rw e (kept-at (R .vector) (R .row) 1 (inl there) (kept .vectors-before) (kept .rows-before) (λ l. refl) (λ c. sym by-u ∙ e)))
-      (true-or-false (balancedAt G t x (R .vector) (R .row) (R .u)))
+  by-u : balancedAt G t x (R .vector) (R .row) (R .u) ≡ balanced G t x (R .vector) (R .row)
+  by-u = balanced-kept G t x (R .vector) (R .row) (R .u) (kept .product)
+
+  pub kept-worked : {R' : Run} → Worked R t R' → Kept t R'
+  kept-worked (stopped e) =
+      kept-at (R .vector) (R .row) 1 (inl there) (kept .vectors-before) (kept .rows-before) (λ l. refl) (λ c. sym by-u ∙ e)
+  kept-worked (on-row e l) = kept-next (sym by-u ∙ e) l
+  kept-worked (on-vector e l) = kept-over (sym by-u ∙ e) l
 
 -- an addition
 
@@ -194,7 +190,7 @@ kept-lengthened {t} {R} {v} kept passed =
       passes = vectored-passes (layer R) {s = more} (omega arith) (omega arith) t (kept .passes);
       entries = rw held (passed .longer);
       place = inl (omega arith, there .1);
-      vectors-before = λ σ j l m. rw held (front {σ} (omega arith) j ∙ kept .vectors-before σ j l m);
+      vectors-before = λ σ j l m. rw held (front {σ = σ} (omega arith) j ∙ kept .vectors-before σ j l m);
       rows-before = λ j l. rw held (front (there .0) j ∙ kept .rows-before j l);
       product = λ l k m. rw held (kept .product l k m ∙ sym (front-product (layer R) (heldList R) v (kept .entries) t (there .0) k));
       unbalanced = λ p c. absurd (free c);

@@ -14,12 +14,16 @@
 --   moved-sizes        the sizes of the setting stay
 --   worked-balanced, worked-caught   the state after its row
 --   stepped-finished, stepped-on   the answer of a step
+--   Worked R t R', worked-is   the state after the row is R', by the three ways in which a row ends
+--   worked-same, worked-count   setting and list stay, and one row more is done
 use Prim.Native.Nat.{ℕ, _+_, _*_, _≤_, _<_}
+use native.Mathlib.Decide.{decLt}
 use native.Mathlib.Nat.{mul-le-mul}
 use native.Mathlib.Omega.{arith}
 use mathlib.Core.Path.{_≡_, refl, sym, ap, _∙_}
-use mathlib.Core.Bool.{Bool, true, false, cond, _||_, false≢true}
+use mathlib.Core.Bool.{Bool, true, false, cond, _||_, false≢true, true≢false}
 use mathlib.Core.List.{List}
+use mathlib.Core.Logic.{⊎-elim}
 use borrow.Author.Tests.{eq-eqb, ne-eqb, lt-ltb, le-ltb, leb-false}
 use lib.Dec.{ltb}
 use Rattle.ticket.specs.declared.published.PlainSetting.{PlainSetting}
@@ -27,6 +31,7 @@ use Rattle.ticket.specs.declared.setting.Setting.{Setting}
 use Rattle.ticket.specs.declared.Answer.{Answer}
 use Rattle.ticket.specs.Rules.{mostRows, mostInner, mostColumns, mostVectors, plain, reading, answer}
 use Rattle.ticket.specs.Laws.Answers.{after-zero}
+use Rattle.ticket.specs.Laws.First.{true-or-false}
 use Rattle.ticket.specs.Laws.Limits.{Sizes}
 use Rattle.ticket.specs.Laws.Passes.{passed-of}
 use Rattle.challenge.specs.declared.single.RowAnswer.{RowAnswer}
@@ -177,3 +182,41 @@ module _ (R : Run) where
     pub stepped-on : isFinished R ≡ false → {r : RunAnswer} → r ≡ tested R (testing (layer R) t (heldList R)) (standing (worked R t))
         → r ≡ stepping R t
     stepped-on e r-is = r-is ∙ sym (rw e)
+
+-- the three ways in which a row ends
+pub data Worked (R : Run) (t : List ℕ) : Run → Type 0 where
+  stopped : balancedAt (layer R) t (heldList R) (R .vector) (R .row) (R .u) ≡ false
+      → Worked R t (placed R (productAt (layer R) t (heldList R) (R .vector) (R .row) (R .u)) (R .vector) (R .row) 1)
+  on-row : balancedAt (layer R) t (heldList R) (R .vector) (R .row) (R .u) ≡ true → R .row + 1 < R .setting .rows
+      → Worked R t (placed R (productAt (layer R) t (heldList R) (R .vector) (R .row) (R .u)) (R .vector) (R .row + 1) (R .caught))
+  on-vector : balancedAt (layer R) t (heldList R) (R .vector) (R .row) (R .u) ≡ true → R .setting .rows ≤ R .row + 1
+      → Worked R t (placed R (productAt (layer R) t (heldList R) (R .vector) (R .row) (R .u)) (R .vector + 1) 0 (R .caught))
+
+pub worked-is : (R : Run) (t : List ℕ) → Worked R t (worked R t)
+unfolding worked moved
+worked-is R t =
+    ⊎-elim
+    (λ e. rw e
+    (elim (decLt (R .row + 1) (R .setting .rows)) [
+      | yes l ↦ rw (lt-ltb (R .row + 1) (R .setting .rows) l) (on-row e l)
+      | no l ↦ let m : R .setting .rows ≤ R .row + 1 = omega arith in rw (le-ltb (R .row + 1) (R .setting .rows) m) (on-vector e m)
+    ]))
+    (λ e. rw e (stopped e))
+    (true-or-false (balancedAt (layer R) t (heldList R) (R .vector) (R .row) (R .u)))
+
+caught-one : (R : Run) → R .caught ≡ 1 → isCaught R ≡ true
+unfolding isCaught
+caught-one R e = rw e
+
+module _ {R : Run} {t : List ℕ} where
+  pub worked-same : {R' : Run} → Worked R t R' → (R' .setting ≡ R .setting) × (heldList R' ≡ heldList R)
+  unfolding heldList
+  worked-same (stopped e) = (refl, refl)
+  worked-same (on-row e l) = (refl, refl)
+  worked-same (on-vector e l) = (refl, refl)
+
+  pub worked-count : {R' : Run} → R .row < R .setting .rows → Worked R t R' → isFinished R' ≡ false
+      → R' .vector * R .setting .rows + R' .row ≡ R .vector * R .setting .rows + R .row + 1
+  worked-count {R'} there (stopped e) going = absurd (true≢false (sym (caught-one R' refl) ∙ unfinished R' going .1))
+  worked-count there (on-row e l) going = omega arith
+  worked-count there (on-vector e l) going = omega arith
