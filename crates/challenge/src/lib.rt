@@ -40,9 +40,9 @@ pub fn check(setting: Setting, ticket: &[u8], list: &[u32]) -> Answer
 pub fn read(setting: Setting, ticket: &[u8], list: &[u32]) -> Answer
     ensures { λ r. ⌜ r ≡ testing setting (now (ticket .entry)) (now (list .entry)) ⌝ }
 {
-    let read = ticket::read(setting, ticket);
-    if read.number != 0 {
-        return read;
+    let tested = ticket::read(setting, ticket);
+    if tested.number != 0 {
+        return tested;
     }
     lists::read_list(setting, list)
 }

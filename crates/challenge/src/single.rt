@@ -188,9 +188,10 @@ fn reduce(list: &[u32], wide: &mut [u64])
     requires { ⌜ length (now wide) ≤ length (now list) ⌝ }
     ensures { λ r. ⌜ Filled 0 (now (wide .entry)) (length (now (wide .entry))) (λ k. getD (now (list .entry)) k 0 % modulus) (now (wide .exit)) ⌝ }
 {
-    let mut k = 0;
-    while k < wide.len() {
-        wide[k] = Residue::reduce(list[k] as u64).0 as u64;
-        k += 1;
+    let p = Residue::modulus();
+    let mut i = 0;
+    while i < wide.len() {
+        wide[i] = (list[i] % p) as u64;
+        i += 1;
     }
 }
