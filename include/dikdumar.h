@@ -100,8 +100,8 @@ typedef struct {
  */
 typedef struct {
     uint32_t number;   /* what was found, 0 to 22 */
-    uint32_t place;    /* where, by the number; the length of a written ticket */
-    uint32_t row;      /* the row that was caught, from 0, else 0 */
+    uint32_t place;    /* where, by the number; the length of a written ticket; the next vector of a run */
+    uint32_t row;      /* the row that was caught, from 0, or the next row of a run; else 0 */
     uint32_t products; /* the products counted, else 0 */
 } dikdumar_answer;
 
