@@ -22,6 +22,7 @@
 --   worked R t         the state after its row: caught where that is not balanced, else moved on
 --   stepping R t       the answer of a step
 --   withVectors P s, oneMore P   the setting with s vectors, and with one more than it has
+--   overwritten x k v  x with v for as many of its numbers, from number k on
 --   lengthened R v     the state with v at the end of its list
 --   isOpen R           a vector may be added: the run is not finished, and has fewer vectors than the most
 --   additionReading R v   the answer of the tests of an addition: of the setting, of the state's list, of the list that v lengthens, and 22
@@ -160,11 +161,14 @@ withVectors P s =
 abbrev pub oneMore : PlainSetting → PlainSetting
 oneMore P = withVectors P (P .vectors + 1)
 
+abbrev pub overwritten : List ℕ → ℕ → List ℕ → List ℕ
+overwritten x k v = take k x ++ (v ++ drop (k + length v) x)
+
 abbrev pub lengthened : Run → List ℕ → Run
 lengthened R v =
     record {
       setting = oneMore (R .setting);
-      list = take (R .length) (R .list) ++ (v ++ drop (R .length + length v) (R .list));
+      list = overwritten (R .list) (R .length) v;
       length = R .length + length v;
       vector = R .vector;
       row = R .row;

@@ -1,16 +1,15 @@
 // The lists of states: made, read and lengthened.
 ghost use mathlib.Core.Path.{_≡_};
 ghost use mathlib.Core.Bool.{cond};
-ghost use mathlib.Core.List.{_++_};
 ghost use Prim.Native.Nat.{_+_, _≤_};
 ghost use lib.Dec.{leb};
-ghost use lib.ListN.{length, getD, take, drop};
+ghost use lib.ListN.{length, getD, take};
 ghost use Rattle.algebra.specs.Laws.Fills.{Filled};
 ghost use Rattle.ticket.specs.Rules.{refusal, settingNumber};
 ghost use Rattle.ticket.specs.Laws.Vectors.{vectored};
 ghost use Rattle.challenge.specs.Rules.{listReading};
 ghost use Rattle.challenge.specs.Laws.Lengthened.{placedAfter};
-ghost use Rattle.run.specs.Rules.{additionReading, begun, lengthened, mostNumbers, zeros};
+ghost use Rattle.run.specs.Rules.{additionReading, begun, lengthened, mostNumbers, overwritten, zeros};
 ghost use Rattle.run.specs.Laws.Additions.{Additional};
 use crate::INNER;
 use crate::NUMBERS;
@@ -143,7 +142,7 @@ fn refusal(number: u32, place: u32) -> Answer
 // Numbers to a list, from a place on.
 fn put(numbers: &[u32], list: &mut [u32], start: usize)
     requires { ⌜ start + length (now numbers) ≤ length (now list) ⌝ }
-    ensures { λ r. ⌜ now (list .exit) ≡ take start (now (list .entry)) ++ (now (numbers .entry) ++ drop (start + length (now (numbers .entry))) (now (list .entry))) ⌝ }
+    ensures { λ r. ⌜ now (list .exit) ≡ overwritten (now (list .entry)) start (now (numbers .entry)) ⌝ }
 {
     let end = start + numbers.len();
     copy(numbers, &mut list[start..end]);

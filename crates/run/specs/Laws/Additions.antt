@@ -36,7 +36,7 @@ use Rattle.challenge.specs.Laws.Lengthened.{placedAfter, lengthened-reading}
 use Rattle.challenge.specs.Laws.Lists.{Entries, well-formed-is, list-place}
 use Rattle.challenge.specs.Laws.Single.{listed-long, listed-at, filled-listed}
 use Rattle.run.specs.declared.Run.{Run}
-use Rattle.run.specs.Rules.{layer, mostNumbers, heldList, isFinished, begun, oneMore, lengthened, isOpen, additionReading}
+use Rattle.run.specs.Rules.{layer, mostNumbers, heldList, isFinished, begun, oneMore, lengthened, isOpen, additionReading, overwritten}
 
 module _ (R : Run) (long : length (R .list) ≡ mostNumbers) {G : Setting} (G-is : G ≡ layer R) {x : List ℕ}
     (x-is : x ≡ take (cond (leb (R .length) (length (R .list))) (R .length) 0) (R .list)) where
@@ -81,7 +81,7 @@ begun-made P x few filled = rw (begun-list x few filled)
 -- a list with another in its middle
 pub put-list : (x v : List ℕ) (start : ℕ) → start + length v ≤ length x → {part : List ℕ}
     → Filled 0 (take (start + length v - start) (drop start x)) (length v) (λ k. getD v k 0) part
-    → take start x ++ (part ++ drop (start + length v - start) (drop start x)) ≡ take start x ++ (v ++ drop (start + length v) x)
+    → take start x ++ (part ++ drop (start + length v - start) (drop start x)) ≡ overwritten x start v
 put-list x v start fits filled =
     let room = take (start + length v - start) (drop start x) in
     let size : length room ≡ length v = length-take-le (start + length v - start) (drop start x) (omega (arith, length-drop start x)) ∙ omega arith in
@@ -242,7 +242,7 @@ module _ {R : Run} {v : List ℕ} (passed : Additional R v) where
         omega (arith, held-long .0, vector-long, mul-le-mul more (addition-sizes .columns .1))
 
 pub lengthened-made : (R : Run) (v : List ℕ) {list : List ℕ}
-    → list ≡ take (R .length) (R .list) ++ (v ++ drop (R .length + length v) (R .list))
+    → list ≡ overwritten (R .list) (R .length) v
     → _≡_ {A = Run} (record {
       setting = oneMore (R .setting);
       list = list;

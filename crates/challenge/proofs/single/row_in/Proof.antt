@@ -49,8 +49,8 @@ returns c =
     let wide = widened product in
     let line = wide .before .before in
     let pre = start line .pre in
-    row-made _ _ _ _ _ _ _ (line-numbers (pre .0) (pre .1) (line .line .ensures) (wide .widen .ensures)) (omega (arith, pre .1 .inner)) (product .product-at .ensures)
-    (reduced .reduce .ensures) (c .line-balanced .ensures)
+    row-made _ _ _ _ _ _ _ (line-numbers (pre .0) (pre .1) (line .line .ensures) (wide .widen .ensures)) (omega (arith, pre .1 .inner))
+    (product .product-at .ensures) (reduced .reduce .ensures) (c .line-balanced .ensures)
 
 pub row-in-spec : {M : Type 1} → statement M
 row-in-spec =

@@ -22,7 +22,8 @@ passed c = testing-passed _ _ _ (read-is (c .before .before)) (c .if1 .left)
 returns : tie.Need-returns
 returns c =
     let read = c .before .before .before .before in
-    tested-refused zeros (read-is read) _ (c .before .before .if1 .taken) (c .refused .ensures ∙ ap (λ R. marked R refused (read .read .result)) (c .before .zeros .ensures))
+    tested-refused zeros (read-is read) _ (c .before .before .if1 .taken)
+    (c .refused .ensures ∙ ap (λ R. marked R refused (read .read .result)) (c .before .zeros .ensures))
 
 begun-requires : tie.Need-begun-requires
 begun-requires c κs = omega (arith, passed c .list .size, passed c .passed .counts)
