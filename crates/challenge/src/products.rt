@@ -1,16 +1,17 @@
 // Products with a vector, modulo p.
 ghost use mathlib.Core.Path.{_≡_};
 ghost use Prim.Native.Nat.{_≤_};
-ghost use lib.ListN.{length, getD};
+ghost use lib.ListN.{length};
 ghost use Rattle.residue.specs.Rules.{modulus};
 ghost use Rattle.algebra.specs.Laws.Fills.{Filled};
-ghost use Rattle.challenge.specs.Laws.Products.{dotOf, dotWith, offsetOf, rowsTimes, DotReady, NarrowFactors, ProductReady, RecordsReady, ResidueVector};
+ghost use Rattle.challenge.specs.Laws.Products.{dotOf, dotWith, offsetOf, rowsTimes};
+ghost use Rattle.challenge.specs.Laws.Products.{DotReady, NarrowFactors, ProductReady, RecordsReady, Widened, WordVector};
 use residue::ProductSum;
 use residue::Residue;
 use ticket::RECORD;
 
 // 2^32. No number of a vector reaches it; a remainder by it tells the compiler so.
-const WORD: u64 = 4_294_967_296;
+pub(crate) const WORD: u64 = 4_294_967_296;
 
 // The first rows of the product of a matrix, a part of the ticket, and a vector that is as long as each of its rows: as many rows as the
 // list u has numbers.
@@ -73,7 +74,7 @@ pub(crate) fn wide_dot(list: &[u32], vector: &[u64], offset: u64) -> Residue
 // What takes a shift of the other factors off a sum of products with a vector: the vector's sum times the negative of the shift,
 // modulo p.
 pub(crate) fn offset(vector: &[u64], shift: u64) -> u64
-    requires { ⌜ ResidueVector (now vector) × (shift ≤ modulus) ⌝ }
+    requires { ⌜ WordVector (now vector) × (shift ≤ modulus) ⌝ }
     ensures { λ r. ⌜ r ≡ offsetOf shift (now (vector .entry)) ⌝ }
 {
     let mut sum: u64 = 0;
@@ -89,7 +90,7 @@ pub(crate) fn offset(vector: &[u64], shift: u64) -> u64
 // A vector in 64-bit numbers, as its products take them, to a list.
 pub(crate) fn widen(vector: &[u32], list: &mut [u64])
     requires { ⌜ length (now vector) ≤ length (now list) ⌝ }
-    ensures { λ r. ⌜ Filled 0 (now (list .entry)) (length (now (vector .entry))) (λ j. getD (now (vector .entry)) j 0) (now (list .exit)) ⌝ }
+    ensures { λ r. ⌜ Widened (now (vector .entry)) (now (list .entry)) (now (list .exit)) ⌝ }
 {
     let mut j = 0;
     while j < vector.len() {

@@ -2,13 +2,13 @@
 ghost use mathlib.Core.Path.{_≡_};
 ghost use Prim.Native.Nat.{_+_, _*_, _%_, _^_, _≤_};
 ghost use lib.ListN.{length, getD};
-ghost use Rattle.residue.specs.Rules.{modulus};
 ghost use Rattle.algebra.specs.Laws.Fills.{Filled, lineAt};
 ghost use Rattle.challenge.specs.Rules.{balancedBy, noRow, productAt, rowMade};
-ghost use Rattle.challenge.specs.Laws.Products.{ResidueVector};
+ghost use Rattle.challenge.specs.Laws.Products.{WordVector};
 ghost use Rattle.challenge.specs.Laws.Sides.{RoomFor, RowDecoded};
 ghost use Rattle.challenge.specs.Laws.Single.{DecodeRowReady, LineReady, RowReady};
 use crate::lists::line;
+use crate::products::WORD;
 use crate::products::offset;
 use crate::products::product;
 use crate::products::widen;
@@ -20,9 +20,6 @@ use ticket::Answer;
 use ticket::PartNumber;
 use ticket::RECORD;
 use ticket::Setting;
-
-// 2^32
-const WORD: u64 = 4_294_967_296;
 
 // What one row comes to: the answer of the ordinary tests, whether the two sides of the row are equal, and the product of B and the vector
 // that its rows are compared by. Where no row is made, none is out of balance.
@@ -71,7 +68,8 @@ pub(crate) fn row_of(
     )
 }
 
-// The same; the lists x and wide are for the vector and for the numbers that the row takes for its product with B.
+// The same; the lists x and wide are for the vector and for the numbers that the row takes for its product with B. These are not reduced
+// first: modulo p their products come to the same.
 fn row_in(
     setting: Setting,
     ticket: &[u8],
@@ -87,7 +85,8 @@ fn row_in(
 {
     widen(line(list, x.len(), t), x);
     let made = product_at(setting, ticket, x, wide, row, u);
-    reduce(&made, wide);
+    let inner = wide.len();
+    widen(&made[..inner], wide);
     let balanced = line_balanced(setting, ticket, x, wide, row);
     RowAnswer {
         tested: Answer::PASSED,
@@ -119,7 +118,7 @@ fn product_at(
 
 // Whether a row is balanced, by a vector x, which is a list of one, and by what is put for its product with B, u.
 fn line_balanced(setting: Setting, ticket: &[u8], x: &[u64], u: &[u64], row: u32) -> bool
-    requires { ⌜ LineReady setting (now ticket) (now x) (now u) row × ResidueVector (now u) ⌝ }
+    requires { ⌜ LineReady setting (now ticket) (now x) (now u) row × WordVector (now u) ⌝ }
     ensures { λ r. ⌜ r ≡ balancedBy setting (now (ticket .entry)) (now (x .entry)) 0 (λ k. getD (now (u .entry)) k 0) row ⌝ }
 {
     let mut a = [0; INNER];
@@ -180,18 +179,5 @@ fn narrow(wide: &[u64], list: &mut [u32])
     while k < wide.len() {
         list[k] = (wide[k] % WORD) as u32;
         k += 1;
-    }
-}
-
-// The least residues of numbers, in 64 bits, as their products take them, to a list.
-fn reduce(list: &[u32], wide: &mut [u64])
-    requires { ⌜ length (now wide) ≤ length (now list) ⌝ }
-    ensures { λ r. ⌜ Filled 0 (now (wide .entry)) (length (now (wide .entry))) (λ k. getD (now (list .entry)) k 0 % modulus) (now (wide .exit)) ⌝ }
-{
-    let p = Residue::modulus();
-    let mut i = 0;
-    while i < wide.len() {
-        wide[i] = (list[i] % p) as u64;
-        i += 1;
     }
 }

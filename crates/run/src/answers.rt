@@ -1,15 +1,19 @@
-// Whether a run is finished, and the answers of states.
+// Whether a run is finished, how it goes on, and what is said of it.
 ghost use mathlib.Core.Path.{_≡_};
-ghost use Rattle.ticket.specs.Laws.Limits.{Sizes};
 ghost use Rattle.ticket.specs.Rules.{plain};
-ghost use Rattle.challenge.specs.Rules.{testing};
-ghost use Rattle.run.specs.Rules.{heldList, isFinished, isPast, layer, marked, moved, productsDone, refused, standing, tested};
-ghost use Rattle.run.specs.Laws.States.{DoneReady, Inside};
+ghost use Rattle.run.specs.Rules.{isFinished, isPast, marked, productsDone, standing, tested};
+ghost use Rattle.run.specs.Laws.States.{Answerable, DoneReady, due, proceeded};
 use crate::Run;
 use crate::RunAnswer;
-use crate::lists::held;
+use challenge::RowAnswer;
 use ticket::Answer;
 use ticket::PlainSetting;
+
+// What is said of a run.
+struct Told {
+    mark: u32,
+    answer: Answer,
+}
 
 impl Run {
     // Whether the run is complete: the next vector or row is beyond its end.
@@ -25,23 +29,58 @@ impl Run {
         self.is_past() | (0 < self.caught)
     }
 
-    // A finished state gives its answer again, after the ordinary tests.
-    pub(crate) fn repeated(self, ticket: &[u8]) -> RunAnswer
-        ensures { λ r. ⌜ r ≡ tested self (testing (layer self) (now (ticket .entry)) (heldList self)) (standing self) ⌝ }
+    // The vector whose row is due. Where the run is finished none is: then it is one that is not there.
+    pub(crate) fn due(self) -> u32
+        ensures { λ r. ⌜ r ≡ due self ⌝ }
     {
-        let list = self.list;
-        let tested = challenge::read(self.setting.plain(), ticket, held(&list, self.length));
-        if tested.number != 0 {
-            return self.refused(tested);
+        if self.is_finished() {
+            return self.setting.vectors;
         }
-        self.standing()
+        self.vector
     }
 
-    // The answer of a state by itself.
-    pub(crate) fn standing(self) -> RunAnswer
-        requires { ⌜ Sizes (layer self) ⌝ }
-        ensures { λ r. ⌜ r ≡ standing self ⌝ }
+    // The state after a row, where one was due and the tests passed: caught, or on to the next row, after the last to the first of the next vector.
+    pub(crate) fn proceeded(mut self, made: RowAnswer) -> Run
+        ensures { λ r. ⌜ r ≡ proceeded self made ⌝ }
     {
+        if (made.tested.number == 0) & !self.is_finished() {
+            if made.balanced {
+                self.row += 1;
+                if self.setting.rows <= self.row {
+                    self.row = 0;
+                    self.vector += 1;
+                }
+            } else {
+                self.caught = 1;
+            }
+        }
+        self
+    }
+
+    // The answer of a state after tests: their refusal, or that of the state by itself. The state is put into it in one place, for speed.
+    pub(crate) fn answered(self, read: Answer) -> RunAnswer
+        requires { ⌜ Answerable self read ⌝ }
+        ensures { λ r. ⌜ r ≡ tested self read (standing self) ⌝ }
+    {
+        let told = self.told(read);
+        let answer = told.answer;
+        RunAnswer {
+            run: self,
+            mark: told.mark,
+            answer,
+        }
+    }
+
+    fn told(self, read: Answer) -> Told
+        requires { ⌜ Answerable self read ⌝ }
+        ensures { λ r. ⌜ marked self (r .mark) (r .answer) ≡ tested self read (standing self) ⌝ }
+    {
+        if read.number != 0 {
+            return Told {
+                mark: RunAnswer::REFUSED,
+                answer: read,
+            };
+        }
         let setting = self.setting;
         if self.is_past() {
             let answer = Answer {
@@ -50,7 +89,10 @@ impl Run {
                 row: 0,
                 products: products_done(setting, setting.vectors, 0),
             };
-            return self.marked(RunAnswer::COMPLETE, answer);
+            return Told {
+                mark: RunAnswer::COMPLETE,
+                answer,
+            };
         }
         if 0 < self.caught {
             let answer = Answer {
@@ -59,7 +101,10 @@ impl Run {
                 row: self.row,
                 products: products_done(setting, self.vector, self.row + 1),
             };
-            return self.marked(RunAnswer::CAUGHT, answer);
+            return Told {
+                mark: RunAnswer::CAUGHT,
+                answer,
+            };
         }
         let answer = Answer {
             number: 0,
@@ -67,37 +112,10 @@ impl Run {
             row: self.row,
             products: products_done(setting, self.vector, self.row),
         };
-        self.marked(RunAnswer::UNDER_WAY, answer)
-    }
-
-    pub(crate) fn refused(self, answer: Answer) -> RunAnswer
-        ensures { λ r. ⌜ r ≡ marked self refused answer ⌝ }
-    {
-        self.marked(RunAnswer::REFUSED, answer)
-    }
-
-    fn marked(self, mark: u32, answer: Answer) -> RunAnswer
-        ensures { λ r. ⌜ r ≡ marked self mark answer ⌝ }
-    {
-        RunAnswer {
-            run: self,
-            mark,
+        Told {
+            mark: RunAnswer::UNDER_WAY,
             answer,
         }
-    }
-
-    // The state on to the next row, after the last to the first of the next vector.
-    pub(crate) fn moved(mut self) -> Run
-        requires { ⌜ Inside self ⌝ }
-        ensures { λ r. ⌜ r ≡ moved self (self .u) ⌝ }
-    {
-        self.row += 1;
-        if self.row < self.setting.rows {
-            return self;
-        }
-        self.row = 0;
-        self.vector += 1;
-        self
     }
 }
 

@@ -54,50 +54,41 @@ impl Run {
     pub fn begin(setting: PlainSetting, ticket: &[u8], list: &[u32]) -> RunAnswer
         ensures { λ r. ⌜ r ≡ beginning setting (now (ticket .entry)) (now (list .entry)) ⌝ }
     {
-        let tested = challenge::read(setting.plain(), ticket, list);
-        if tested.number != 0 {
-            return lists::zeros().refused(tested);
+        let read = challenge::read(setting.plain(), ticket, list);
+        if read.number != 0 {
+            return lists::zeros().answered(read);
         }
-        lists::begun(setting, list).standing()
+        lists::begun(setting, list).answered(read)
     }
 
     // The ordinary tests of the state and of the ticket lent, then one row, where the run is not finished.
     pub fn step(mut self, ticket: &[u8]) -> RunAnswer
         ensures { λ r. ⌜ r ≡ stepping self (now (ticket .entry)) ⌝ }
     {
-        if self.is_finished() {
-            return self.repeated(ticket);
-        }
         let list = self.list;
         let before = self.u;
         let made = challenge::check_one_row(
             self.setting.plain(),
             ticket,
             lists::held(&list, self.length),
-            self.vector,
+            self.due(),
             self.row,
             before,
         );
-        if made.tested.number != 0 {
-            return self.refused(made.tested);
-        }
         let u = made.u;
         self.u = u;
-        if made.balanced {
-            return self.moved().standing();
-        }
-        self.caught = 1;
-        self.standing()
+        let read = made.tested;
+        self.proceeded(made).answered(read)
     }
 
     // The tests of the state and of a vector, which then joins the end of the list, where the run is not finished and has room for it.
     pub fn add(mut self, vector: &[u32]) -> RunAnswer
         ensures { λ r. ⌜ r ≡ adding self (now (vector .entry)) ⌝ }
     {
-        let tested = self.read_addition(vector);
-        if tested.number != 0 {
-            return self.refused(tested);
+        let read = self.read_addition(vector);
+        if read.number != 0 {
+            return self.answered(read);
         }
-        self.lengthened(vector).standing()
+        self.lengthened(vector).answered(read)
     }
 }

@@ -6,7 +6,8 @@
 --   dotWith o l x     o plus the sum of the products of the numbers of l and x, modulo p
 --   dot-more          with a number added to o, it is that added modulo p
 --   side-made         with the shift taken off, that is the sum of the integers that l holds shifted, times x, modulo p
---   ResidueVector x   x has no more numbers than a row of a matrix, and they are least residues
+--   WordVector x      x has no more numbers than a row of a matrix, and they are of 32 bits
+--   Widened x l l'    l' is the list l, of which the first numbers are those of x, of 32 bits
 --   offset-small      an offset is at most 2^62
 --   Reached o f n s   s is o plus the sum of the first n values of f
 --   reached-none, reached-more, reached-all   no value is added yet, one more, and all
@@ -37,6 +38,7 @@ use Rattle.residue.specs.Laws.Products.{product-below, HoldsSum, holds-more, ho
 use Rattle.residue.specs.Laws.Residues.{residue-of-natural}
 use Rattle.residue.specs.Laws.Sums.{sum-none, sum-more, sum-below}
 use Rattle.algebra.specs.Rules.{sumℤ}
+use Rattle.algebra.specs.Laws.Fills.{Filled}
 use Rattle.algebra.specs.Laws.IntegerSums.{sumℤ-cong}
 use Rattle.algebra.specs.Laws.Positions.{row-inside}
 use Rattle.ticket.specs.Rules.{mostInner, recordBytes, valueAt}
@@ -77,9 +79,13 @@ side-made s n z x list v most size same shifted =
     ∙ ap (λ m. leastResidue modulus (sumℤ m (λ j. z j *ℤ pos (getD v j 0)))) size
     ∙ ap (leastResidue modulus) (sumℤ-cong n _ _ (λ j l. ap (λ m. z j *ℤ pos m) (same j l)))
 
-pub record ResidueVector (x : List ℕ) : Type 0 where
+pub record WordVector (x : List ℕ) : Type 0 where
   pub short : length x ≤ mostInner
-  pub below : (j : ℕ) → j < length x → getD x j 0 < modulus
+  pub below : (j : ℕ) → j < length x → getD x j 0 < 2 ^ 32
+
+pub record Widened (x before list : List ℕ) : Type 0 where
+  pub filled : Filled 0 before (length x) (λ j. getD x j 0) list
+  pub words : (j : ℕ) → j < length x → getD x j 0 < 2 ^ 32
 
 pub offset-small : (shift n : ℕ) (x : ℕ → ℕ) → taken-off modulus shift n x ≤ 2 ^ 62
 unfolding taken-off
@@ -128,15 +134,15 @@ module _ {f : ℕ → ℕ} {n k low high : ℕ} (held : HoldsSum k f low high) (
 
 -- sums of products in two words, of 64 bits, and in one
 
-module _ {x : List ℕ} (vector : ResidueVector x) {j : ℕ} (l : j < length x) where
+module _ {x : List ℕ} (vector : WordVector x) {j : ℕ} (l : j < length x) where
   word-is : getD x j 0 % 2 ^ 32 ≡ getD x j 0
-  word-is = mod-eq-of-lt (omega (arith, vector .below j l, modulus-below))
+  word-is = mod-eq-of-lt (vector .below j l)
 
   pub total-fits : {s : ℕ} → Reached 0 (λ i. getD x i 0) j s → s + getD x j 0 < 2 ^ 64
   total-fits reached =
       omega (
         arith,
-        sum-below (j + 1) (2 ^ 31) (λ i. getD x i 0) (λ i m. omega (arith, vector .below i (omega arith), modulus-below)),
+        sum-below (j + 1) (2 ^ 32) (λ i. getD x i 0) (λ i m. omega (arith, vector .below i (omega arith))),
         sum-more j (λ i. getD x i 0),
         vector .short,
       )
@@ -150,11 +156,11 @@ module _ {x : List ℕ} (vector : ResidueVector x) {j : ℕ} (l : j < length x) 
     term-more term = holds-more (omega (arith, vector .short)) term-fits (term ∙ ap (λ n. v * n) (sym word-is))
 
 pub record RecordsReady (bytes : List ℕ) (start : ℕ) (x : List ℕ) : Type 0 where
-  pub vector : ResidueVector x
+  pub vector : WordVector x
   pub long : recordBytes * (start + length x) ≤ length bytes
 
 pub record DotReady (list x : List ℕ) : Type 0 where
-  pub vector : ResidueVector x
+  pub vector : WordVector x
   pub long : length x ≤ length list
 
 pub record NarrowFactors (list x : List ℕ) (offset : ℕ) : Type 0 where
@@ -163,13 +169,13 @@ pub record NarrowFactors (list x : List ℕ) (offset : ℕ) : Type 0 where
 
 module _ {list x : List ℕ} {offset : ℕ} (ready : DotReady list x) (narrow : NarrowFactors list x offset)
     {j s : ℕ} (l : j < length x) (reached : Reached offset (λ i. getD list i 0 * getD x i 0) j s) where
-  pub narrow-fits : (getD list j 0 * (getD x j 0 % 2 ^ 32) ≤ 2 ^ 47) × (s + getD list j 0 * (getD x j 0 % 2 ^ 32) < 2 ^ 63)
+  pub narrow-fits : (getD list j 0 * (getD x j 0 % 2 ^ 32) ≤ 2 ^ 48) × (s + getD list j 0 * (getD x j 0 % 2 ^ 32) < 2 ^ 63)
   narrow-fits =
       rw (word-is (ready .vector) l) (
         narrow-term (narrow .small j l) (ready .vector .below j l),
         omega (
           arith,
-          sum-below (j + 1) (2 ^ 47) (λ i. getD list i 0 * getD x i 0)
+          sum-below (j + 1) (2 ^ 48) (λ i. getD list i 0 * getD x i 0)
               (λ i m. narrow-term (narrow .small i (omega arith)) (ready .vector .below i (omega arith))),
           sum-more j (λ i. getD list i 0 * getD x i 0),
           ready .vector .short,
@@ -187,7 +193,7 @@ module _ {list x : List ℕ} {offset : ℕ} (ready : DotReady list x) (narrow : 
   narrow-more = reached-more offset (λ i. getD list i 0 * getD x i 0) reached (ap (λ n. getD list j 0 * n) (word-is (ready .vector) l))
 
 pub record ProductReady (bytes : List ℕ) (rows : ℕ) (x : List ℕ) : Type 0 where
-  pub vector : ResidueVector x
+  pub vector : WordVector x
   pub long : recordBytes * (rows * length x) ≤ length bytes
 
 pub records-ready : {bytes x : List ℕ} {rows k : ℕ} → ProductReady bytes rows x → k < rows → RecordsReady bytes (k * length x) x

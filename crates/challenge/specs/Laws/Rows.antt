@@ -35,7 +35,7 @@ use Rattle.ticket.specs.declared.Answer.{Answer}
 use Rattle.ticket.specs.Rules.{unless, answer, recordBytes, biasColumns}
 use Rattle.ticket.specs.Laws.Limits.{lift}
 use Rattle.ticket.specs.Laws.Runs.{Steps, step-answer, RunTo}
-use Rattle.challenge.specs.Laws.Products.{rowsTimes, dot-small, dotWith, offsetOf, offset-small, ResidueVector, RecordsReady, DotReady, NarrowFactors}
+use Rattle.challenge.specs.Laws.Products.{rowsTimes, dot-small, dotWith, offsetOf, offset-small, WordVector, RecordsReady, DotReady, NarrowFactors}
 
 abbrev pub sidesEqual : ℕ → ℕ → List ℕ → List ℕ → List ℕ → List ℕ → Bool
 sidesEqual left right a w x u = eqb (dotWith left w x) (dotWith right a u)
@@ -80,8 +80,8 @@ pub record VectorRowsReady (G : Setting) (a w d x u : List ℕ) (shift products 
   pub lift-below : shift ≤ modulus
   pub bound-below : G .bound ≤ modulus
   pub few : products + G .rows * rowCost G x u < 2 ^ 32
-  pub vector-x : ResidueVector x
-  pub vector-u : ResidueVector u
+  pub vector-x : WordVector x
+  pub vector-u : WordVector u
   pub long-A : G .rows * length u ≤ length a
   pub long-claims : G .rows * length x ≤ length w
   pub bias-fits : biasColumns G ≤ length x
@@ -98,7 +98,7 @@ pub record SidesReady (a w d x z u : List ℕ) (i right products : ℕ) : Type 0
 pub line-inside : {rows i long : ℕ} (n : ℕ) → i < rows → rows * n ≤ long → i * n + n ≤ long
 line-inside n l h = omega (arith, row-inside n l)
 
-pub sides-ready : {a w d x u : List ℕ} {rows n i right products : ℕ} → ResidueVector x → ResidueVector u → length x ≤ length w → length u ≤ length a
+pub sides-ready : {a w d x u : List ℕ} {rows n i right products : ℕ} → WordVector x → WordVector u → length x ≤ length w → length u ≤ length a
     → ((k : ℕ) → k < length u → getD a k 0 < 2 ^ 16) → i < rows → n ≤ length x → recordBytes * (rows * n) ≤ length d → right ≤ 2 ^ 62
     → products + length x + length u + n < 2 ^ 32 → SidesReady a w d x (take n x) u i right products
 sides-ready {d = d} {x} {u} {n = n} {i} vector-x vector-u long-w long-a small l fits long-d most few =

@@ -4,15 +4,14 @@
 --   taken-off p s n x   what takes the shift off: the sum of x times the negative of s, modulo p
 --   shifted-residue     a shifted integer, modulo p
 --   shift-off           the sum of the shifted products with that added is the sum of the products, modulo p
---   narrow-term         a number below 2^16 times a least residue is at most 2^47
+--   narrow-term         a number below 2^16 times one of 32 bits is at most 2^48
 use Prim.Native.Nat.{ℕ, _+_, _-_, _*_, _/_, _%_, _^_, _≤_, _<_}
 use native.Mathlib.Nat.{add-mod-mod, div-add-mod, mul-le-mul}
 use native.Mathlib.Omega.{arith}
 use mathlib.Core.Path.{_≡_, sym, ap, _∙_}
 use lib.IntN.{ℤ, pos, _+ℤ_, _*ℤ_}
-use Rattle.residue.specs.Rules.{modulus, leastResidue, sum}
+use Rattle.residue.specs.Rules.{leastResidue, sum}
 use Rattle.residue.specs.Laws.Modulo.{mod-of-multiples, multiples-of-mod, mod-mul-left}
-use Rattle.residue.specs.Laws.Modulus.{modulus-below}
 use Rattle.residue.specs.Laws.Residues.{residue-of-natural, residue-sum}
 use Rattle.residue.specs.Laws.Sums.{sum-mod-cong, sum-add, sum-scale}
 use Rattle.algebra.specs.Rules.{sumℤ}
@@ -55,8 +54,8 @@ module _ (p : ℕ) (above : 0 < p) (s : ℕ) where
         ))
         ∙ sym (residue-dot p above n z x)
 
-pub narrow-term : {e x : ℕ} → e < 2 ^ 16 → x < modulus → e * x ≤ 2 ^ 47
+pub narrow-term : {e x : ℕ} → e < 2 ^ 16 → x < 2 ^ 32 → e * x ≤ 2 ^ 48
 narrow-term {e} {x} small below =
     let a : e ≤ 2 ^ 16 = omega arith in
-    let b : x ≤ 2 ^ 31 = omega (arith, modulus-below) in
+    let b : x ≤ 2 ^ 32 = omega arith in
     omega (arith, mul-le-mul a b)

@@ -9,38 +9,40 @@
 --   bias-inside, single-sides   then the two sides can be compared
 --   single-balanced    and are equal exactly when the row is balanced
 --   balanced-cong      whether a row is balanced depends on the numbers of its vector, and of what it takes for the product
+--   balanced-reduced   and on these modulo p alone
 --   product-same, product-cong   so do the product, and u, made anew at row 0
 --   listed-long, listed-at, filled-listed   a list by its elements; a list of which the first elements are filled so
 --   line-matrix, product-first, product-later   the product can be made; u as the code makes it
---   residues-kept      the numbers that a row takes are least residues
+--   words-kept         the numbers that a row takes are of 32 bits
 --   line-ready, line-numbers   the vector, widened, is ready for its row, and its numbers are those of the list
 --   row-made           what the code makes of a row
 --   row-ready, row-checked, row-refused, row-beyond   the answer of a row by the tests, and by whether there is one
 --   product-kept, balanced-kept   with u as its rows keep it, a row is balanced by u exactly when it is
---   checked-refused, checked-made   of a row that is there: where the tests refuse, the answer is theirs, else it is that of the row
 use Prim.Native.Nat.{ℕ, zero, suc, _+_, _-_, _*_, _%_, _^_, _≤_, _<_}
 use native.Mathlib.Decide.{ℕ-discrete, decLt}
-use native.Mathlib.Nat.{mod-eq-of-lt, mod-lt}
+use native.Mathlib.Nat.{mod-eq-of-lt}
 use native.Mathlib.Omega.{arith}
 use mathlib.Core.Path.{_≡_, refl, sym, ap, _∙_}
 use mathlib.Core.Bool.{Bool, true, false, _&&_, and-false}
-use mathlib.Core.Logic.{_⊎_, inl, inr, ⊎-elim}
+use mathlib.Core.Logic.{_⊎_, ⊎-elim}
 use mathlib.Core.List.{List, [], _∷_, _++_}
 use borrow.Author.Tests.{eq-eqb, ne-eqb, lt-ltb, le-ltb}
 use lib.Dec.{eqb, ltb}
-use lib.IntN.{pos, _+ℤ_, _*ℤ_}
+use lib.IntN.{pos, _*ℤ_}
 use lib.ListN.{length, getD, take, drop, length-append, length-drop, List·getD-append}
-use lib.Seq.{ext-getD, getD-append-add, getD-drop}
+use lib.Seq.{ext-getD, getD-append-add, getD-drop, getD-take}
 use Rattle.residue.specs.Rules.{modulus, leastResidue}
+use Rattle.residue.specs.Laws.Modulo.{mod-mul, mod-mul-left}
 use Rattle.residue.specs.Laws.Modulus.{modulus-below, modulus-positive}
-use Rattle.residue.specs.Laws.Residues.{residue-below}
+use Rattle.residue.specs.Laws.Residues.{residue-below, residue-sum}
+use Rattle.residue.specs.Laws.Sums.{sum-mod-cong}
 use Rattle.algebra.specs.Rules.{sumℤ}
 use Rattle.algebra.specs.Laws.Fills.{Filled, lineAt}
-use Rattle.algebra.specs.Laws.IntegerSums.{sumℤ-cong}
+use Rattle.algebra.specs.Laws.IntegerSums.{sumℤ-cong, residue-dot}
 use Rattle.algebra.specs.Laws.Positions.{row-inside}
 use Rattle.ticket.specs.declared.setting.Setting.{Setting}
 use Rattle.ticket.specs.declared.Answer.{Answer}
-use Rattle.ticket.specs.Rules.{unless, answer, refusal, reading, mostInner, recordBytes, halfRange, part, partSize, ofA, ofB, ofBias, ofQuotients, ofRemainders, biasColumns, entryA, entryB, entryBias, claim}
+use Rattle.ticket.specs.Rules.{unless, answer, refusal, reading, mostInner, recordBytes, halfRange, ofA, ofB, ofBias, ofQuotients, ofRemainders, biasColumns, entryA, entryB, entryBias, claim}
 use Rattle.ticket.specs.Laws.Answers.{after-zero}
 use Rattle.ticket.specs.Laws.Decodes.{ShiftedList, LiftedList, decodable, row-shifted, row-lifted, values-B, values-bias}
 use Rattle.ticket.specs.Laws.Layout.{partBytes, parts-are}
@@ -49,10 +51,10 @@ use Rattle.ticket.specs.Laws.Passes.{Passed, passed-of}
 use Rattle.challenge.specs.declared.single.RowAnswer.{RowAnswer}
 use Rattle.challenge.specs.Rules.{challengeAt, listReading, testing, productB, claimSide, operandSideBy, balancedBy, balanced, listed, productAt, balancedAt, rowMade, noRow, rowThere, rowCheck}
 use Rattle.challenge.specs.Laws.Checks.{rows-can}
-use Rattle.challenge.specs.Laws.Products.{ResidueVector, ProductReady, rowsTimes, dot-small, offsetOf, offset-small}
-use Rattle.challenge.specs.Laws.Rows.{SidesReady, rowAnswer, sidesEqual, sides-ready}
+use Rattle.challenge.specs.Laws.Products.{WordVector, Widened, ProductReady, rowsTimes, dot-small, offsetOf, offset-small}
+use Rattle.challenge.specs.Laws.Rows.{SidesReady, rowAnswer, sides-ready}
 use Rattle.challenge.specs.Laws.Sides.{RoomFor, RowDecoded, sides-balanced}
-use Rattle.challenge.specs.Laws.Vectors.{VectorThere, vector-numbers, vector-residues, product-by}
+use Rattle.challenge.specs.Laws.Vectors.{VectorThere, vector-numbers, vector-words, product-by}
 
 pub record RowReady (G : Setting) (t x : List ℕ) (τ i : ℕ) : Type 0 where
   pub vector : VectorThere G t x τ
@@ -62,7 +64,7 @@ pub record LineReady (G : Setting) (t y u : List ℕ) (i : ℕ) : Type 0 where
   pub passed : Passed G t
   pub row : i < G .rows
   pub room : RoomFor G y u
-  pub vector : ResidueVector y
+  pub vector : WordVector y
 
 pub record DecodeRowReady (G : Setting) (t : List ℕ) (half i m n : ℕ) : Type 0 where
   pub passed : Passed G t
@@ -102,13 +104,13 @@ module _ {G : Setting} {t : List ℕ} {half i m n : ℕ} (ready : DecodeRowReady
 pub bias-inside : {G : Setting} {t y u : List ℕ} {i n : ℕ} → LineReady G t y u i → n ≡ biasColumns G → n ≤ length y
 bias-inside {G} ready n-is = omega (arith, ready .room .columns, bias-columns-most G)
 
-module _ {G : Setting} {t y u : List ℕ} {i : ℕ} (ready : LineReady G t y u i) (residues : ResidueVector u) {a w d : List ℕ} (decoded : RowDecoded G t i a w)
+module _ {G : Setting} {t y u : List ℕ} {i : ℕ} (ready : LineReady G t y u i) (words : WordVector u) {a w d : List ℕ} (decoded : RowDecoded G t i a w)
     (d-is : d ≡ partBytes (clamped G) t ofBias) {n : ℕ} (n-is : n ≡ biasColumns G) {right : ℕ} (right-is : right ≡ offsetOf (G .bound) u) where
   pub single-sides : G .inner ≤ length a → G .columns ≤ length w → SidesReady a w d y (take n y) u i right 0
   single-sides long-a long-w =
       let sizes = ready .passed .counts .sizes in
       let long : length d ≡ recordBytes * (G .rows * n) = rw n-is (values-bias (ready .passed) d-is .0) in
-      sides-ready (ready .vector) residues (omega (arith, ready .room .columns)) (omega (arith, ready .room .inner))
+      sides-ready (ready .vector) words (omega (arith, ready .room .columns)) (omega (arith, ready .room .inner))
       (λ k l. decoded .entries .small k (omega (arith, ready .room .inner))) (ready .row) (bias-inside ready n-is) (omega arith)
       (rw right-is (offset-small (G .bound) (length u) (λ j. getD u j 0)))
       (omega (arith, ready .room .columns, ready .room .inner, bias-inside ready n-is))
@@ -186,6 +188,17 @@ module _ (G : Setting) (t x y : List ℕ) (τ σ : ℕ) (same : (j : ℕ) → j 
   unfolding productAt
   product-cong i u = rw (listed-cong (G .inner) (productB G t x τ) (productB G t y σ) product-same)
 
+pub balanced-reduced : (G : Setting) (t x : List ℕ) (τ : ℕ) (f : ℕ → ℕ) (i : ℕ) → balancedBy G t x τ f i ≡ balancedBy G t x τ (λ k. f k % modulus) i
+unfolding balancedBy operandSideBy
+balanced-reduced G t x τ f i =
+    ap (λ n. eqb (claimSide G t x τ i) n)
+    (residue-sum modulus modulus-positive _ _
+    ∙ ap (λ n. (n + leastResidue modulus (sumℤ (G .columns) (λ j. entryBias G t i j *ℤ pos (challengeAt G x τ j)))) % modulus)
+    (residue-dot modulus modulus-positive (G .inner) (entryA G t i) f
+    ∙ sum-mod-cong (G .inner) modulus _ _ (λ k l. sym (mod-mul modulus (leastResidue modulus (entryA G t i k)) (f k)) ∙ mod-mul-left modulus _ (f k % modulus))
+    ∙ sym (residue-dot modulus modulus-positive (G .inner) (entryA G t i) (λ k. f k % modulus)))
+    ∙ sym (residue-sum modulus modulus-positive _ _))
+
 -- the product
 
 module _ {G : Setting} {t y u : List ℕ} {i : ℕ} (ready : LineReady G t y u i) {b : List ℕ} (b-is : b ≡ partBytes (clamped G) t ofB) where
@@ -217,42 +230,43 @@ pub product-later : (G : Setting) (t x : List ℕ) (τ : ℕ) {i : ℕ} (u : Lis
 unfolding productAt
 product-later G t x τ {i} u d = sym (rw (ne-eqb i 0 d))
 
-pub residues-kept : (u : List ℕ) {wide before : List ℕ} → length before ≤ mostInner
-    → Filled 0 before (length before) (λ k. getD u k 0 % modulus) wide → ResidueVector wide
-residues-kept u short filled =
+pub words-kept : {u wide before : List ℕ} → Widened u before wide → length u ≡ length before → length before ≤ mostInner → WordVector wide
+words-kept {u} widened long short =
+    let filled = widened .filled in
     record {
       short = omega (arith, filled .long);
-      below = λ k l. rw (filled .each k (omega (arith, filled .long))) (mod-lt _ modulus-positive);
+      below = λ k l. let m : k < length u = omega (arith, filled .long) in rw (filled .each k m) (widened .words k m);
     }
 
 -- the row
 
 module _ {G : Setting} {t x : List ℕ} {τ i : ℕ} (ready : RowReady G t x τ i) {before-y before-u : List ℕ} (room : RoomFor G before-y before-u)
-    {z : List ℕ} (z-is : z ≡ lineAt x (length before-y) τ) {y : List ℕ} (widened : Filled 0 before-y (length z) (λ j. getD z j 0) y) where
+    {z : List ℕ} (z-is : z ≡ lineAt x (length before-y) τ) {y : List ℕ} (widened : Widened z before-y y) where
   pub line-ready : {u : List ℕ} → length u ≡ length before-u → LineReady G t y u i
   line-ready long =
       record {
         passed = ready .vector .list .passed;
         row = ready .row;
-        room = record { columns = widened .long ∙ room .columns; inner = long ∙ room .inner };
-        vector = vector-residues (ready .vector) room z-is widened;
+        room = record { columns = widened .filled .long ∙ room .columns; inner = long ∙ room .inner };
+        vector = vector-words (ready .vector) room z-is widened;
       }
 
   pub line-numbers : (j : ℕ) → j < G .columns → getD y j 0 ≡ challengeAt G x τ j
   line-numbers = vector-numbers (ready .vector) room z-is widened
 
-pub row-made : (G : Setting) (t x y : List ℕ) (τ i : ℕ) (u : List ℕ) {before wide made : List ℕ} {b : Bool}
-    → ((j : ℕ) → j < G .columns → getD y j 0 ≡ challengeAt G x τ j) → length before ≡ G .inner → made ≡ productAt G t y 0 i u
-    → Filled 0 before (length before) (λ k. getD made k 0 % modulus) wide → b ≡ balancedBy G t y 0 (λ k. getD wide k 0) i
+pub row-made : (G : Setting) (t x y : List ℕ) (τ i : ℕ) (u : List ℕ) {n : ℕ} {before wide made : List ℕ} {b : Bool}
+    → ((j : ℕ) → j < G .columns → getD y j 0 ≡ challengeAt G x τ j) → n ≡ G .inner → n ≡ length (take n made)
+    → made ≡ productAt G t y 0 i u → Widened (take n made) before wide → b ≡ balancedBy G t y 0 (λ k. getD wide k 0) i
     → _≡_ {A = RowAnswer} (record { tested = refusal 0 0; balanced = b; u = made }) (rowMade G t x τ i u)
 unfolding balancedAt
-row-made G t x y τ i u {wide = wide} numbers long made-is reduced b-is =
+row-made G t x y τ i u {n} {wide = wide} {made = made'} numbers inner long made-is widened b-is =
     let same : (j : ℕ) → j < G .columns → challengeAt G y 0 j ≡ challengeAt G x τ j = λ j l. ap (λ q. getD y q 0) (omega arith) ∙ numbers j l in
     let made : _ ≡ productAt G t x τ i u = made-is ∙ product-cong G t y x 0 τ same i u in
     rw (
       b-is,
-      balanced-cong G t y x 0 τ same (λ k. getD wide k 0) (λ k. getD (productAt G t x τ i u) k 0 % modulus)
-          (λ k l. reduced .each k (omega arith) ∙ ap (λ l. getD l k 0 % modulus) made) i,
+      balanced-cong G t y x 0 τ same (λ k. getD wide k 0) (λ k. getD (productAt G t x τ i u) k 0)
+          (λ k l. widened .filled .each k (omega arith) ∙ getD-take n made' k 0 (omega arith) ∙ ap (λ l. getD l k 0) made) i,
+      balanced-reduced G t x τ (λ k. getD (productAt G t x τ i u) k 0) i,
       made,
     )
 
@@ -284,23 +298,6 @@ module _ (G : Setting) (t x : List ℕ) (τ i : ℕ) {a : Answer} (a-is : a ≡ 
       (λ l. not-made u (rw (le-ltb τ (G .vectors) l) (and-false (eqb (testing G t x .number) 0))) r-is)
       (λ l. not-made u (rw (le-ltb i (G .rows) l, and-false (ltb τ (G .vectors))) (and-false (eqb (testing G t x .number) 0))) r-is)
       beyond
-
--- of a row that is there
-
-module _ (G : Setting) (t x : List ℕ) (τ i : ℕ) (u : List ℕ) (vector : τ < G .vectors) (row : i < G .rows)
-    {r : RowAnswer} (r-is : r ≡ rowCheck G t x τ i u) where
-  by-tests : ((testing G t x .number ≡ 0) × (r ≡ rowMade G t x τ i u)) ⊎ ((testing G t x .number ≡ 0 → ⊥) × (r ≡ noRow (testing G t x) u))
-  by-tests =
-      elim (ℕ-discrete (testing G t x .number) 0) [
-        | yes z ↦ inl (z, r-is ∙ sym (row-checked G t x τ i refl z vector row u refl))
-        | no d ↦ inr (d, r-is ∙ sym (row-refused G t x τ i refl u d refl))
-      ]
-
-  pub checked-refused : (r .tested .number ≡ 0 → ⊥) → r .tested ≡ testing G t x
-  checked-refused d = ⊎-elim (λ h. absurd (d (ap (λ q. q .tested .number) (h .1)))) (λ h. ap (λ q. q .tested) (h .1)) by-tests
-
-  pub checked-made : r .tested .number ≡ 0 → (testing G t x .number ≡ 0) × (r ≡ rowMade G t x τ i u)
-  checked-made z = ⊎-elim (λ h. h) (λ h. absurd (h .0 (sym (ap (λ q. q .tested .number) (h .1)) ∙ z))) by-tests
 
 -- the product, as a row that is made takes it
 

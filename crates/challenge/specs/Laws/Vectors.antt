@@ -8,14 +8,14 @@
 --   VectorReady G t x τ q    it can be worked through after q products
 --   vector-ready             each can, those before it having passed
 --   line-within, line-fits   the vector is within the list, and is not too long for y
---   vector-numbers, vector-is, vector-residues   y holds its numbers, and is it; they are least residues
+--   vector-numbers, vector-is, vector-words   y holds its numbers, and is it; they are least residues
 --   matrix-ready             the bytes of B hold its rows
 --   product-by               rows of B times a vector are its product with B
 --   product-made             u holds that
 --   rows-ready               the rows are ready once y and u are filled
 --   vector-answered          the answer of the rows, by what they are decoded to, is that of the vector
 use Prim.Native.Nat.{ℕ, _+_, _*_, _%_, _≤_, _<_, _^_}
-use native.Mathlib.Nat.{mod-lt, mul-le-mul}
+use native.Mathlib.Nat.{mul-le-mul}
 use native.Mathlib.Omega.{arith}
 use mathlib.Core.Path.{_≡_, refl, sym, ap, _∙_}
 use mathlib.Core.List.{List}
@@ -23,7 +23,7 @@ use lib.Dec.{eqb}
 use lib.ListN.{length, getD}
 use lib.Seq.{ext-getD}
 use Rattle.residue.specs.Rules.{modulus, leastResidue}
-use Rattle.residue.specs.Laws.Modulus.{modulus-above, modulus-positive}
+use Rattle.residue.specs.Laws.Modulus.{modulus-above, modulus-below, modulus-positive}
 use Rattle.residue.specs.Laws.Sums.{sum-cong}
 use Rattle.algebra.specs.Laws.Fills.{Filled, lineAt, part-of, part-long}
 use Rattle.algebra.specs.Laws.IntegerSums.{residue-dot}
@@ -39,7 +39,7 @@ use Rattle.ticket.specs.Laws.Runs.{Steps, steps-answer, step-answer, RunTo}
 use Rattle.ticket.specs.Laws.Scans.{scan-cong, scan-by-first}
 use Rattle.challenge.specs.Rules.{challengeAt, balanced, productB, firstRow, rowProducts, vectorProducts, caught, verdict}
 use Rattle.challenge.specs.Laws.Lists.{Entries}
-use Rattle.challenge.specs.Laws.Products.{ResidueVector, ProductReady, rowsTimes, dotOf}
+use Rattle.challenge.specs.Laws.Products.{WordVector, Widened, ProductReady, rowsTimes, dotOf, dot-small}
 use Rattle.challenge.specs.Laws.Rows.{VectorRowsReady, rowSteps, line-inside}
 use Rattle.challenge.specs.Laws.Sides.{RoomFor, DecodedTo, agrees-balanced}
 
@@ -105,15 +105,6 @@ module _ {G : Setting} {t x : List ℕ} {τ : ℕ} (there : VectorThere G t x τ
   entries : (j : ℕ) → j < G .columns → getD v j 0 ≡ challengeAt G x τ j
   entries j l = part-of x (τ * G .columns) (G .columns) j 0 l
 
-  vector : ResidueVector v
-  vector =
-      record {
-        short = omega (arith, vector-long, there .list .passed .counts .sizes);
-        below = λ j l.
-            let m : j < G .columns = omega (arith, vector-long) in
-            rw (entries j m) (there .list .list .below (τ * G .columns + j) (omega (arith, vector-inside, there .list .list .size)));
-      }
-
   pub line-within : {before-y before-u : List ℕ} → RoomFor G before-y before-u → τ * length before-y + length before-y ≤ length x
   line-within room = rw (room .columns) vector-inside
 
@@ -124,25 +115,28 @@ module _ {G : Setting} {t x : List ℕ} {τ : ℕ} (there : VectorThere G t x τ
     pub line-fits : length z ≤ length before-y
     line-fits = omega (arith, ap length line-is, vector-long, room .columns)
 
-    module _ {y : List ℕ} (widened : Filled 0 before-y (length z) (λ j. getD z j 0) y) where
+    module _ {y : List ℕ} (widened : Widened z before-y y) where
       pub vector-is : y ≡ v
       vector-is =
-          ext-getD 0 y v (widened .long ∙ room .columns ∙ sym vector-long)
-          (λ j l. widened .each j (omega (arith, ap length line-is, vector-long, widened .long, room .columns)) ∙ ap (λ q. getD q j 0) line-is)
+          let filled = widened .filled in
+          ext-getD 0 y v (filled .long ∙ room .columns ∙ sym vector-long)
+          (λ j l. filled .each j (omega (arith, ap length line-is, vector-long, filled .long, room .columns)) ∙ ap (λ q. getD q j 0) line-is)
 
       pub vector-numbers : (j : ℕ) → j < G .columns → getD y j 0 ≡ challengeAt G x τ j
       vector-numbers j l = ap (λ q. getD q j 0) vector-is ∙ entries j l
 
-      pub vector-residues : ResidueVector y
-      vector-residues = rw vector-is vector
+      pub vector-words : WordVector y
+      vector-words =
+          let same = vector-is ∙ sym line-is in
+          rw same (record { short = omega (arith, ap length line-is, vector-long, there .list .passed .counts .sizes); below = widened .words })
 
       module _ {b : List ℕ} (b-is : b ≡ partBytes (clamped G) t ofB) where
         pub matrix-ready : ProductReady b (length before-u) y
         matrix-ready =
-            rw (vector-is, room .inner) (
+            rw (room .inner) (
             record {
-              vector = vector;
-              long = omega (arith, ap (λ n. G .inner * n) vector-long, values-B (there .list .passed) b-is .0);
+              vector = vector-words;
+              long = omega (arith, ap (λ n. G .inner * n) (ap length vector-is ∙ vector-long), values-B (there .list .passed) b-is .0);
             })
 
         module _ {u : List ℕ} (made : Filled 0 before-u (length before-u) (rowsTimes b y) u) where
@@ -151,12 +145,11 @@ module _ {G : Setting} {t x : List ℕ} {τ : ℕ} (there : VectorThere G t x τ
               made .each k (omega (arith, room .inner))
               ∙ product-by (there .list .passed) b-is x y τ (ap length vector-is ∙ vector-long) vector-numbers l
 
-          product-vector : ResidueVector u
-          unfolding dotOf
+          product-vector : WordVector u
           product-vector =
               record {
                 short = omega (arith, made .long, room .inner, there .list .passed .counts .sizes);
-                below = λ k l. rw (made .each k (omega (arith, made .long))) (mod-lt _ modulus-positive);
+                below = λ k l. rw (made .each k (omega (arith, made .long))) (omega (arith, dot-small b (k * length y) y, modulus-below));
               }
 
           rooms : RoomFor G y u
@@ -172,7 +165,7 @@ module _ {G : Setting} {t x : List ℕ} {τ : ℕ} (there : VectorThere G t x τ
                   lift-below = decoded .lift-below;
                   bound-below = omega (arith, passed .numbers .bound, modulus-above);
                   few = rw (rooms .columns, rooms .inner) (omega (arith, ready .few));
-                  vector-x = vector-residues;
+                  vector-x = vector-words;
                   vector-u = product-vector;
                   long-A = rw (rooms .inner) (decoded .entries .long);
                   long-claims = rw (rooms .columns) (decoded .claims .long);

@@ -1,6 +1,6 @@
 -- The lists of states, and additions to them, as the code makes them (S1).
 --
---   testing-held, row-held, reading-held   the tests and the row of the state's list, as the code takes it
+--   row-held, reading-held   the row and the tests of the state's list, as the code takes it
 --   begun-made         the state of a run that begins
 --   put-list           a list with another in its middle
 --   lengthened-made    the state with a vector at the end of its list
@@ -31,7 +31,7 @@ use Rattle.ticket.specs.Laws.Limits.{Sizes, both, limits-of, setting-holds}
 use Rattle.ticket.specs.Laws.Scans.{after-passed, after-first, after-second, after-together}
 use Rattle.ticket.specs.Laws.Vectors.{vectored, vectored-number}
 use Rattle.challenge.specs.declared.single.RowAnswer.{RowAnswer}
-use Rattle.challenge.specs.Rules.{WellFormed, listReading, testing, listed, rowCheck}
+use Rattle.challenge.specs.Rules.{WellFormed, listReading, listed, rowCheck}
 use Rattle.challenge.specs.Laws.Lengthened.{placedAfter, lengthened-reading}
 use Rattle.challenge.specs.Laws.Lists.{Entries, well-formed-is, list-place}
 use Rattle.challenge.specs.Laws.Single.{listed-long, listed-at, filled-listed}
@@ -43,9 +43,6 @@ module _ (R : Run) (long : length (R .list) ≡ mostNumbers) {G : Setting} (G-is
   held-is : x ≡ heldList R
   unfolding heldList
   held-is = x-is ∙ rw long
-
-  pub testing-held : (t : List ℕ) {a : Answer} → a ≡ testing G t x → a ≡ testing (layer R) t (heldList R)
-  testing-held t a-is = a-is ∙ rw (G-is, held-is)
 
   pub row-held : (t : List ℕ) (τ i : ℕ) (u : List ℕ) {r : RowAnswer} → r ≡ rowCheck G t x τ i u → r ≡ rowCheck (layer R) t (heldList R) τ i u
   row-held t τ i u r-is = r-is ∙ rw (G-is, held-is)

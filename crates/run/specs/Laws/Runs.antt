@@ -37,7 +37,7 @@ use Rattle.run.specs.declared.RunAnswer.{RunAnswer}
 use Rattle.run.specs.Rules.{layer, heldList, isPast, isCaught, isFinished, productsDone, underWay, caughtMark, complete, refused, marked, standing, tested, zeros, begun, beginning, worked, stepping, withVectors, lengthened, additionReading, adding, Action, step, add, acting, lastAnswer, ran, steps, added}
 use Rattle.run.specs.Laws.Additions.{addition-passed, addition-sizes, unfinished-open}
 use Rattle.run.specs.Laws.Kept.{Kept, kept-begun, kept-worked, kept-lengthened, held-begun, held-lengthened}
-use Rattle.run.specs.Laws.States.{unfinished, not-past, standing-past, standing-caught, standing-under, tested-refused, tested-passed, stepped-finished, stepped-on, worked-is, worked-same, worked-count, testing-passed}
+use Rattle.run.specs.Laws.States.{unfinished, not-past, standing-past, standing-caught, standing-under, tested-refused, tested-passed, worked-is, worked-same, worked-count, testing-passed}
 
 pub standing-run : (R : Run) → standing R .run ≡ R
 unfolding standing

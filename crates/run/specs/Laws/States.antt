@@ -1,6 +1,5 @@
 -- States and their answers, as the code makes them (S1).
 --
---   Inside R           the next vector and row of the state are there, and the sizes of its setting are within their limits
 --   DoneReady P τ i    the products of τ vectors and i rows can be counted
 --   DoneSmall P τ i, done-small   none of the products that this takes is large
 --   done-none, done-some   how they are counted
@@ -10,43 +9,41 @@
 --   tested-refused, tested-passed   an answer after tests
 --   testing-plain      the ordinary tests of a setting without a bias
 --   testing-passed     where the ordinary tests pass, setting, ticket and list do
---   moved-within, moved-over   the state on to the next row
---   moved-sizes        the sizes of the setting stay
---   worked-balanced, worked-caught   the state after its row
---   stepped-finished, stepped-on   the answer of a step
+--   Answerable R a     where tests with the answer a pass, the sizes of the state's setting are within their limits
+--   due R              the vector whose row is due, one that is not there where the run is finished
+--   proceeded R a      the state after a row with the answer a, where one was due and the tests passed
+--   proceeding         the next vector and row are then there
+--   proceeded-none, proceeded-caught, proceeded-within, proceeded-over   it by the four ways in which that may go
+--   step-sizes, step-made   the answer of a step, by that state: it can be given, and is that of the rule
 --   Worked R t R', worked-is   the state after the row is R', by the three ways in which a row ends
 --   worked-same, worked-count   setting and list stay, and one row more is done
 use Prim.Native.Nat.{ℕ, _+_, _*_, _≤_, _<_}
-use native.Mathlib.Decide.{decLt}
+use native.Mathlib.Decide.{ℕ-discrete, decLt}
 use native.Mathlib.Nat.{mul-le-mul}
 use native.Mathlib.Omega.{arith}
 use mathlib.Core.Path.{_≡_, refl, sym, ap, _∙_}
-use mathlib.Core.Bool.{Bool, true, false, cond, _||_, false≢true, true≢false}
+use mathlib.Core.Bool.{Bool, true, false, cond, not, _&&_, _||_, false≢true, true≢false}
 use mathlib.Core.List.{List}
-use mathlib.Core.Logic.{⊎-elim}
+use mathlib.Core.Logic.{inl, ⊎-elim}
 use borrow.Author.Tests.{eq-eqb, ne-eqb, lt-ltb, le-ltb, leb-false}
-use lib.Dec.{ltb}
+use lib.Dec.{eqb, ltb}
 use Rattle.ticket.specs.declared.published.PlainSetting.{PlainSetting}
 use Rattle.ticket.specs.declared.setting.Setting.{Setting}
 use Rattle.ticket.specs.declared.Answer.{Answer}
-use Rattle.ticket.specs.Rules.{mostRows, mostInner, mostColumns, mostVectors, plain, reading, answer}
+use Rattle.ticket.specs.Rules.{mostRows, mostInner, mostColumns, mostVectors, unless, plain, reading, answer}
 use Rattle.ticket.specs.Laws.Answers.{after-zero}
 use Rattle.ticket.specs.Laws.First.{true-or-false}
 use Rattle.ticket.specs.Laws.Limits.{Sizes}
 use Rattle.ticket.specs.Laws.Passes.{passed-of}
 use Rattle.challenge.specs.declared.single.RowAnswer.{RowAnswer}
-use Rattle.challenge.specs.Rules.{listReading, testing, challengeProducts, caughtProducts, accepted, caught, productAt, balancedAt, rowMade}
+use Rattle.challenge.specs.Rules.{listReading, testing, challengeProducts, caughtProducts, accepted, caught, productAt, balancedAt, rowMade, noRow, rowCheck}
 use Rattle.challenge.specs.Laws.Checks.{rows-can}
 use Rattle.challenge.specs.Laws.Kinds.{plain-row}
+use Rattle.challenge.specs.Laws.Single.{row-checked, row-refused, row-beyond}
 use Rattle.challenge.specs.Laws.Vectors.{ListReady}
 use Rattle.run.specs.declared.Run.{Run}
 use Rattle.run.specs.declared.RunAnswer.{RunAnswer}
 use Rattle.run.specs.Rules.{layer, heldList, isPast, isCaught, isFinished, productsDone, underWay, caughtMark, complete, refused, marked, standing, tested, placed, moved, worked, stepping}
-
-pub record Inside (R : Run) : Type 0 where
-  pub sizes : Sizes (layer R)
-  pub vector : R .vector < R .setting .vectors
-  pub row : R .row < R .setting .rows
 
 -- products
 
@@ -142,46 +139,117 @@ testing-passed G t x a-is z =
     let both = after-zero (reading G t) (listReading G x) .0 (sym (ap (λ b. b .number) a-is) ∙ z) in
     rows-can (passed-of G t (both .0)) refl (both .1)
 
+abbrev pub Answerable : Run → Answer → Type 0
+Answerable R a = a .number ≡ 0 → Sizes (layer R)
+
 -- a step
 
-module _ (R : Run) where
-  pub moved-within : R .row + 1 < R .setting .rows → placed R (R .u) (R .vector) (R .row + 1) (R .caught) ≡ moved R (R .u)
-  unfolding moved
-  moved-within l = sym (rw (lt-ltb (R .row + 1) (R .setting .rows) l))
+abbrev pub due : Run → ℕ
+due R = cond (isFinished R) (R .setting .vectors) (R .vector)
 
-  pub moved-over : R .setting .rows ≤ R .row + 1 → placed R (R .u) (R .vector + 1) 0 (R .caught) ≡ moved R (R .u)
-  unfolding moved
-  moved-over l = sym (rw (le-ltb (R .row + 1) (R .setting .rows) l))
+unfoldable pub proceeded : Run → RowAnswer → Run
+proceeded R a =
+    cond (eqb (a .tested .number) 0 && not (isFinished R)) (unless (a .balanced) (placed R (R .u) (R .vector) (R .row) 1) (moved R (R .u))) R
 
-  -- the setting stays
-  pub moved-sizes : (u : List ℕ) → Sizes (layer R) → Sizes (layer (moved R u))
-  unfolding moved
-  moved-sizes u sizes = by-test (ltb (R .row + 1) (R .setting .rows))
+module _ (R : Run) (a : RowAnswer) where
+  pub proceeded-none : (eqb (a .tested .number) 0 && not (isFinished R)) ≡ false → R ≡ proceeded R a
+  unfolding proceeded
+  proceeded-none e = sym (rw e)
+
+  module _ (on : (eqb (a .tested .number) 0 && not (isFinished R)) ≡ true) where
+    -- the next vector and row are there
+    pub proceeding : (R .vector < R .setting .vectors) × (R .row < R .setting .rows)
+    proceeding = not-past R (unfinished R (second (eqb (a .tested .number) 0) (isFinished R) on) .0)
+      where
+        second : (b f : Bool) → (b && not f) ≡ true → f ≡ false
+        second true false e = refl
+        second true true e = absurd (false≢true e)
+        second false f e = absurd (false≢true e)
+
+    pub proceeded-caught : a .balanced ≡ false → placed R (R .u) (R .vector) (R .row) 1 ≡ proceeded R a
+    unfolding proceeded
+    proceeded-caught e = sym (rw (on, e))
+
+    pub proceeded-within : a .balanced ≡ true → R .row + 1 < R .setting .rows → placed R (R .u) (R .vector) (R .row + 1) (R .caught) ≡ proceeded R a
+    unfolding proceeded moved
+    proceeded-within e l = sym (rw (on, e, lt-ltb (R .row + 1) (R .setting .rows) l))
+
+    pub proceeded-over : a .balanced ≡ true → R .setting .rows ≤ R .row + 1 → placed R (R .u) (R .vector + 1) 0 (R .caught) ≡ proceeded R a
+    unfolding proceeded moved
+    proceeded-over e l = sym (rw (on, e, le-ltb (R .row + 1) (R .setting .rows) l))
+
+  proceeded-setting : proceeded R a .setting ≡ R .setting
+  unfolding proceeded moved
+  proceeded-setting = by-tests (eqb (a .tested .number) 0 && not (isFinished R)) (a .balanced) (ltb (R .row + 1) (R .setting .rows))
     where
-      by-test : (b : Bool) → Sizes (layer (cond b (placed R u (R .vector) (R .row + 1) (R .caught)) (placed R u (R .vector + 1) 0 (R .caught))))
-      by-test true = sizes
-      by-test false = sizes
+      by-tests : (on b l : Bool) → cond on (unless b (placed R (R .u) (R .vector) (R .row) 1)
+          (cond l (placed R (R .u) (R .vector) (R .row + 1) (R .caught)) (placed R (R .u) (R .vector + 1) 0 (R .caught)))) R .setting ≡ R .setting
+      by-tests true true true = refl
+      by-tests true true false = refl
+      by-tests true false l = refl
+      by-tests false b l = refl
 
-  module _ (t : List ℕ) where
-    module _ {r : RowAnswer} (r-is : r ≡ rowMade (layer R) t (heldList R) (R .vector) (R .row) (R .u)) where
-      pub worked-balanced : r .balanced ≡ true → moved (placed R (r .u) (R .vector) (R .row) (R .caught)) (r .u) ≡ worked R t
-      unfolding moved worked
-      worked-balanced e =
-          let balance : balancedAt (layer R) t (heldList R) (R .vector) (R .row) (R .u) ≡ true = sym (ap (λ q. q .balanced) r-is) ∙ e in
-          rw (balance, ap (λ q. q .u) r-is)
+-- u is not asked for whether a run is finished
+same-finished : (R : Run) (u : List ℕ) → isFinished (placed R u (R .vector) (R .row) (R .caught)) ≡ isFinished R
+unfolding isPast isCaught
+same-finished R u = refl
 
-      pub worked-caught : r .balanced ≡ false → placed R (r .u) (R .vector) (R .row) 1 ≡ worked R t
-      unfolding worked
-      worked-caught e =
-          let balance : balancedAt (layer R) t (heldList R) (R .vector) (R .row) (R .u) ≡ false = sym (ap (λ q. q .balanced) r-is) ∙ e in
-          rw (balance, ap (λ q. q .u) r-is)
+module _ (R : Run) (t : List ℕ) {a : RowAnswer} (a-is : a ≡ rowCheck (layer R) t (heldList R) (due R) (R .row) (R .u)) where
+  abbrev tests : Answer
+  tests = testing (layer R) t (heldList R)
 
-    pub stepped-finished : isFinished R ≡ true → {r : RunAnswer} → r ≡ tested R (testing (layer R) t (heldList R)) (standing R) → r ≡ stepping R t
-    stepped-finished e r-is = r-is ∙ sym (rw e)
+  -- the state with the u of the row, and that after it
+  abbrev with-u : Run
+  with-u = placed R (a .u) (R .vector) (R .row) (R .caught)
 
-    pub stepped-on : isFinished R ≡ false → {r : RunAnswer} → r ≡ tested R (testing (layer R) t (heldList R)) (standing (worked R t))
-        → r ≡ stepping R t
-    stepped-on e r-is = r-is ∙ sym (rw e)
+  refused-row : (tests .number ≡ 0 → ⊥) → a ≡ noRow tests (R .u)
+  refused-row d = a-is ∙ sym (row-refused (layer R) t (heldList R) (due R) (R .row) refl (R .u) d refl)
+
+  finished-row : isFinished R ≡ true → a ≡ noRow tests (R .u)
+  finished-row e =
+      let past : R .setting .vectors ≤ due R = rw e (omega arith) in
+      a-is ∙ sym (row-beyond (layer R) t (heldList R) (due R) (R .row) refl (R .u) (inl past) refl)
+
+  made-row : tests .number ≡ 0 → isFinished R ≡ false → a ≡ rowMade (layer R) t (heldList R) (R .vector) (R .row) (R .u)
+  made-row z e =
+      let there = not-past R (unfinished R e .0) in
+      (rw e at a-is) ∙ sym (row-checked (layer R) t (heldList R) (R .vector) (R .row) refl z (there .0) (there .1) (R .u) refl)
+
+  -- without a row the state stays
+  stays : a ≡ noRow tests (R .u) → (eqb (tests .number) 0 && not (isFinished R)) ≡ false → proceeded with-u a ≡ R
+  stays none e = rw none (sym (proceeded-none R (noRow tests (R .u)) e))
+
+  goes-on : tests .number ≡ 0 → isFinished R ≡ false → proceeded with-u a ≡ worked R t
+  unfolding proceeded moved worked
+  goes-on z e =
+      let u = productAt (layer R) t (heldList R) (R .vector) (R .row) (R .u) in
+      rw (made-row z e, same-finished R u ∙ e)
+
+  pub step-sizes : Answerable (proceeded with-u a) (a .tested)
+  step-sizes z =
+      rw (proceeded-setting with-u a)
+      (elim (ℕ-discrete (tests .number) 0) [
+        | yes passed ↦ testing-passed (layer R) t (heldList R) refl passed .passed .counts .sizes
+        | no d ↦ absurd (d (sym (ap (λ b. b .tested .number) (refused-row d)) ∙ z))
+      ])
+
+  pub step-made : {r : RunAnswer} → let S = proceeded with-u a in r ≡ tested S (a .tested) (standing S) → r ≡ stepping R t
+  step-made r-is =
+      elim (ℕ-discrete (tests .number) 0) [
+        | yes z ↦
+            ⊎-elim
+            (λ e. let none = finished-row e in
+            (rw (stays none (rw (eq-eqb (tests .number) 0 z, e)), none) at r-is) ∙ sym (rw e))
+            (λ e. let made : a .tested .number ≡ 0 = ap (λ b. b .tested .number) (made-row z e) in
+            let said : _ ≡ tested R tests (standing (worked R t)) =
+            tested-passed R refl z (r-is ∙ sym (tested-passed _ refl made refl) ∙ ap standing (goes-on z e)) in
+            said ∙ sym (rw e))
+            (true-or-false (isFinished R))
+        | no d ↦
+            let none = refused-row d in
+            tested-refused R refl _ d
+            ((rw (stays none (rw (ne-eqb (tests .number) 0 d)), none) at r-is) ∙ sym (tested-refused R refl (standing R) d refl))
+      ]
 
 -- the three ways in which a row ends
 pub data Worked (R : Run) (t : List ℕ) : Run → Type 0 where

@@ -1,6 +1,6 @@
 use native.Mathlib.Omega.{arith}
 use borrow.Author.Needs.{needs}
-use mathlib.Core.Path.{_≡_, ap, _∙_}
+use mathlib.Core.Path.{_≡_, refl, sym, ap, _∙_}
 use Rattle.ticket.specs.Rules.{plain}
 use Rattle.challenge.specs.Rules.{testing}
 use Rattle.challenge.specs.Laws.Vectors.{ListReady}
@@ -19,24 +19,30 @@ read-is c = testing-plain (c .before .plain .ensures) _ _ (c .read .ensures)
 passed : (c : tie.Else1) → let args = start (c .before .before) .args in ListReady (plain (args .setting)) (args .ticket .now) (args .list .now)
 passed c = testing-passed _ _ _ (read-is (c .before .before)) (c .if1 .left)
 
+-- zeros are asked for nothing but the refusal
+answered-requires : tie.Need-answered-requires
+answered-requires c κs = λ z. absurd (c .before .if1 .taken z)
+
 returns : tie.Need-returns
 returns c =
     let read = c .before .before .before .before in
-    tested-refused zeros (read-is read) _ (c .before .before .if1 .taken)
-    (c .refused .ensures ∙ ap (λ R. marked R refused (read .read .result)) (c .before .zeros .ensures))
+    let fails = c .before .before .if1 .taken in
+    tested-refused zeros (read-is read) _ fails
+    (c .answered .ensures ∙ sym (tested-refused _ refl _ fails refl) ∙ ap (λ R. marked R refused (read .read .result)) (c .before .zeros .ensures))
 
 begun-requires : tie.Need-begun-requires
 begun-requires c κs = omega (arith, passed c .list .size, passed c .passed .counts)
 
-standing-requires : tie.Need-standing-requires
-standing-requires c κs = rw (c .begun .ensures) (passed (c .before) .passed .counts .sizes)
+answered-requires-2 : tie.Need-answered-requires-2
+answered-requires-2 c κs = λ z. rw (c .begun .ensures) (passed (c .before) .passed .counts .sizes)
 
 returns-2 : tie.Need-returns-2
 returns-2 c =
     let read = c .before .before .before .before in
-    tested-passed zeros (read-is read) (c .before .before .if1 .left) (c .standing .ensures ∙ ap standing (c .before .begun .ensures))
+    let passes = c .before .before .if1 .left in
+    tested-passed zeros (read-is read) passes (c .answered2 .ensures ∙ sym (tested-passed _ refl passes refl) ∙ ap standing (c .before .begun .ensures))
 
 pub begin-spec : {M : Type 1} → statement M
 begin-spec =
     tie.close
-    (tie.spec (λ c κs. search needs) (λ c κs. search needs) (λ c κs. search needs) (λ c κs. search needs) returns begun-requires standing-requires returns-2)
+    (tie.spec (λ c κs. search needs) (λ c κs. search needs) (λ c κs. search needs) answered-requires returns begun-requires answered-requires-2 returns-2)
