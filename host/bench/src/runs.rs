@@ -4,11 +4,11 @@ use std::hint::black_box;
 
 use dikdumar::{Mark, Run, RunAnswer};
 
-use super::{challenge, Clock, Input, Number, Plan, PROGRAMS, VECTORS};
+use super::{Clock, Input, Number, Plan, VECTORS};
 use crate::table::{Stepped, Table};
 
-/// For each count of vectors all steps of a run, and a check that ends when the ticket
-/// is read, at a list of the wrong length.
+/// For each count of vectors all steps of a run, and its beginning, which makes the tests
+/// that each step makes anew, and no row.
 pub struct Runs([(Number, Number); 2]);
 
 impl Runs {
@@ -20,7 +20,8 @@ impl Runs {
             let checked = dikdumar::challenge_check(setting, ticket, list);
             assert_eq!(to_its_end(begun, ticket).answer, checked);
             let steps = clock.add(move || to_its_end(black_box(begun), black_box(ticket)));
-            let reading = challenge(&PROGRAMS[0], setting, ticket, &list[1..], 10, clock);
+            let reading =
+                clock.add(move || dikdumar::run_begin(black_box(setting), black_box(ticket), black_box(list)));
             (steps, reading)
         }))
     }

@@ -73,7 +73,7 @@ pub struct Stepped {
     pub size: String,
     pub vectors: u32,
     pub steps: u32,
-    /// Nanoseconds of all steps, of reading the ticket once, and of the whole check.
+    /// Nanoseconds of all steps, of the tests that each makes, and of the whole check.
     pub run: f64,
     pub reading: f64,
     pub check: f64,
@@ -85,7 +85,7 @@ impl Stepped {
         self.run / f64::from(self.steps)
     }
 
-    /// What the steps cost beside reading the ticket at each, over the whole check.
+    /// What the steps cost beside the tests of each, over the whole check.
     fn ratio(&self) -> f64 {
         (self.run - f64::from(self.steps) * self.reading) / self.check
     }
@@ -132,7 +132,7 @@ impl Display for Table {
         writeln!(f)?;
         writeln!(
             f,
-            "| Size | s | Steps | Steps, µs | Step, µs | Reading, µs | (Steps - readings) / challenge check |"
+            "| Size | s | Steps | Steps, µs | Step, µs | Tests, µs | (Steps - tests) / challenge check |"
         )?;
         writeln!(f, "|---|---|---:|---:|---:|---:|---:|")?;
         for run in &self.stepped {
