@@ -8,7 +8,7 @@
 --   VectorReady G t x τ q    it can be worked through after q products
 --   vector-ready             each can, those before it having passed
 --   line-within, line-fits   the vector is within the list, and is not too long for y
---   vector-numbers, vector-is, vector-words   y holds its numbers, and is it; they are least residues
+--   vector-numbers, vector-is, vector-words   y holds its numbers, and is it; they are of 32 bits
 --   matrix-ready             the bytes of B hold its rows
 --   product-by               rows of B times a vector are its product with B
 --   product-made             u holds that

@@ -198,7 +198,7 @@ module _ (R : Run) (t : List ℕ) {a : RowAnswer} (a-is : a ≡ rowCheck (layer 
   abbrev tests : Answer
   tests = testing (layer R) t (heldList R)
 
-  -- the state with the u of the row, and that after it
+  -- the state with the u of the row
   abbrev with-u : Run
   with-u = placed R (a .u) (R .vector) (R .row) (R .caught)
 
