@@ -1,5 +1,7 @@
 // Residue arithmetic modulo p = 2^31 - 1. Every call takes every value of its parameters, a number of p or more is reduced
 // first, and each result is fixed by its contract. The rules that the contracts cite are in specs/Rules.antt.
+#![tactic(auto)]
+
 ghost use Rattle.std.specs.Prelude.{◌≡◌, pos, ◌+ℤ◌, ◌-ℤ◌, ◌*ℤ◌, nat_lt};
 ghost use Rattle.residue.specs.Rules.{modulus, least_residue, signed_entry};
 

@@ -1,5 +1,6 @@
 // The program: reads setting.rec, ticket.rec and challenge.rec in the folder that it is run in, and writes the line of the
 // challenge check's answer. A file that is missing or cannot be read counts as empty.
+#![tactic(auto)]
 ghost use Rattle.files.specs.Laws.Prefixes.{Leads};
 ghost use Rattle.files.specs.Laws.Starts.{BuffersRoom, AnswerFor};
 

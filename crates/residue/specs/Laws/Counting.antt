@@ -106,11 +106,17 @@ module _ {A : Type 0} {P : A → Type 0} {c : ℕ} (m : AtMost P c) where
   word_below : (s : ℕ) (xs : List A) → Word P s xs → word_code xs < c ^ s
   unfolding word_code
   word_below zero [] w = rw pow-zero (omega arith)
+  word_below zero (x ∷ xs) w = elim w [ ]
+  word_below (suc s) [] w = elim w [ ]
   word_below (suc s) (x ∷ xs) w = rw pow-suc (digits_lt (word_below s xs w.1) (m.below x w.0))
 
   word_apart : (s : ℕ) (xs ys : List A) → Word P s xs → Word P s ys → word_code xs ≡ word_code ys → xs ≡ ys
   unfolding word_code
   word_apart zero [] [] v w e = refl
+  word_apart zero [] (y ∷ ys) v w e = elim w [ ]
+  word_apart zero (x ∷ xs) ys v w e = elim v [ ]
+  word_apart (suc s) [] ys v w e = elim v [ ]
+  word_apart (suc s) (x ∷ xs) [] v w e = elim w [ ]
   word_apart (suc s) (x ∷ xs) (y ∷ ys) v w e =
       let h = m.below x v.0 in
       let k = m.below y w.0 in
