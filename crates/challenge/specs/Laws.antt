@@ -9,8 +9,6 @@
 --   Checks     the whole check (C1)
 --   Single     one row by itself
 --   Lengthened   a list with a vector at its end
---   Kinds      the check without a bias, and with one (B3)
---   Rounding   the check with the rounding number 0 (O3)
 pub mod Lists
 pub mod Shifts
 pub mod Products
@@ -20,5 +18,3 @@ pub mod Vectors
 pub mod Checks
 pub mod Single
 pub mod Lengthened
-pub mod Kinds
-pub mod Rounding

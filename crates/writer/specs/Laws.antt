@@ -6,19 +6,11 @@
 --   Answers    when each answer is given, and what the output then holds
 --   Lines      the records of rows and of whole operands
 --   Claims     quotient and remainder of a sum
---   Entries    what operands give that pass the tests
 --   Rows       the records of the claims, row by row
---   Tickets    the whole ticket
---   Kinds      the writer without a bias (B3)
---   Rounding   the writer with the rounding number 0 (O3)
 pub mod Writes
 pub mod Records
 pub mod Operands
 pub mod Answers
 pub mod Lines
 pub mod Claims
-pub mod Entries
 pub mod Rows
-pub mod Tickets
-pub mod Kinds
-pub mod Rounding

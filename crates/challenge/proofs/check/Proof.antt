@@ -1,8 +1,9 @@
 use native.Mathlib.Omega.{arith}
 use borrow.Author.Rules.{rules}
 use mathlib.Core.Path.{sym, ap, ◌∙◌}
-use Rattle.ticket.specs.Laws.Passes.{Passed, passed_of}
-use Rattle.challenge.specs.Laws.Checks.{check_ticket}
+use Rattle.ticket.specs.Laws.Passes.{Passed}
+use Rattle.ticket.proofs.Laws.Passes.{passed_of}
+use Rattle.challenge.proofs.Laws.Checks.{check_ticket}
 use Rattle.challenge.proofs.check.Statement.{statement}
 use Rattle.challenge.proofs.check.Tie as tie
 

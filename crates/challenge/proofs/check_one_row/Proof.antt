@@ -1,6 +1,6 @@
 use borrow.Author.Rules.{rules}
 use mathlib.Core.Logic.{inl, inr}
-use Rattle.challenge.specs.Laws.Single.{row_ready, row_checked, row_refused, row_beyond}
+use Rattle.challenge.proofs.Laws.Single.{row_ready, row_checked, row_refused, row_beyond}
 use Rattle.challenge.proofs.check_one_row.Statement.{statement}
 use Rattle.challenge.proofs.check_one_row.Tie as tie
 

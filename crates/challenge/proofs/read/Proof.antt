@@ -1,7 +1,7 @@
 use mathlib.Core.Path.{sym, ap, ◌∙◌}
 use borrow.Author.Rules.{rules}
-use Rattle.ticket.specs.Laws.Passes.{passed_of}
-use Rattle.ticket.specs.Laws.Scans.{after_first, after_second}
+use Rattle.ticket.proofs.Laws.Passes.{passed_of}
+use Rattle.ticket.proofs.Laws.Scans.{after_first, after_second}
 use Rattle.challenge.proofs.read.Statement.{statement}
 use Rattle.challenge.proofs.read.Tie as tie
 

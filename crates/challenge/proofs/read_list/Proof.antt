@@ -1,8 +1,8 @@
 use mathlib.Core.Path.{◌≡◌, sym, ap, ◌∙◌}
 use borrow.Author.Rules.{rules}
 use Rattle.ticket.specs.Rules.{refusal, setting_number}
-use Rattle.ticket.specs.Laws.Limits.{number_by_lem, counts, limits_of, setting_holds}
-use Rattle.ticket.specs.Laws.Scans.{after_first, after_second}
+use Rattle.ticket.proofs.Laws.Limits.{number_by_lem, counts, limits_of, setting_holds}
+use Rattle.ticket.proofs.Laws.Scans.{after_first, after_second}
 use Rattle.challenge.proofs.read_list.Statement.{statement}
 use Rattle.challenge.proofs.read_list.Tie as tie
 

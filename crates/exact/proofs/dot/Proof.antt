@@ -1,7 +1,8 @@
 -- The loop keeps the sum of the first k products, of the count that there are in the shorter list.
 use Rattle.std.proofs.Common.{◌-◌, ◌≤◌, length, refl, arith, rules}
 use native.Mathlib.Nat.{min-le_left, min-le_right}
-use Rattle.exact.specs.Laws.Products.{Summed, summed_none, summed_joined, summed_all}
+use Rattle.exact.specs.Laws.Products.{Summed}
+use Rattle.exact.proofs.Laws.Products.{summed_none, summed_joined, summed_all}
 use Rattle.exact.proofs.dot.Statement.{statement}
 use Rattle.exact.proofs.dot.Tie as tie
 

@@ -1,5 +1,5 @@
 use Rattle.std.proofs.Common.{refl, arith, rules}
-use Rattle.exact.specs.Laws.Products.{summed_joined}
+use Rattle.exact.proofs.Laws.Products.{summed_joined}
 use Rattle.exact.proofs.last.Statement.{statement}
 use Rattle.exact.proofs.last.Tie as tie
 

@@ -1,7 +1,8 @@
 -- The loop keeps the sum of the first k products, of the count that there are.
 use Rattle.std.proofs.Common.{◌≡◌, ◌-◌, ◌≤◌, ◌∙◌, arith, rules}
-use Rattle.residue.specs.Laws.Signed.{widened}
-use Rattle.exact.specs.Laws.Products.{product_fits, product_residue, Summed, summed_none, summed_more}
+use Rattle.residue.proofs.Laws.Signed.{widened}
+use Rattle.exact.specs.Laws.Products.{Summed}
+use Rattle.exact.proofs.Laws.Products.{product_fits, product_residue, summed_none, summed_more}
 use Rattle.exact.proofs.products.Statement.{statement}
 use Rattle.exact.proofs.products.Tie as tie
 

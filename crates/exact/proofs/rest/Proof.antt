@@ -1,6 +1,7 @@
 -- The loop keeps the sum of the first k products, of the count that there are.
 use Rattle.std.proofs.Common.{◌-◌, ◌≤◌, refl, arith}
-use Rattle.exact.specs.Laws.Products.{Summed, summed_none, summed_joined}
+use Rattle.exact.specs.Laws.Products.{Summed}
+use Rattle.exact.proofs.Laws.Products.{summed_none, summed_joined}
 use Rattle.exact.proofs.rest.Statement.{statement}
 use Rattle.exact.proofs.rest.Tie as tie
 

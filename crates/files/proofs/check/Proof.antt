@@ -1,6 +1,6 @@
 use borrow.Author.Rules.{rules}
-use Rattle.files.specs.Laws.Checks.{setting_file_refused, list_checked}
-use Rattle.files.specs.Laws.Numbers.{read_long}
+use Rattle.files.proofs.Laws.Checks.{setting_file_refused, list_checked}
+use Rattle.files.proofs.Laws.Numbers.{read_long}
 use Rattle.files.proofs.check.Statement.{statement}
 use Rattle.files.proofs.check.Tie as tie
 

@@ -1,5 +1,5 @@
 use Rattle.std.proofs.Common.{rules}
-use Rattle.full.specs.Laws.Claims.{check_refused, check_passed, check_compared}
+use Rattle.full.proofs.Laws.Claims.{check_refused, check_passed, check_compared}
 use Rattle.full.proofs.check.Statement.{statement}
 use Rattle.full.proofs.check.Tie as tie
 

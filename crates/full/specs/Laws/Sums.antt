@@ -5,23 +5,17 @@
 --   sum_steps G A B y      all sums of the rows A and the columns B, one after the other, by the claims y
 --   SumsReady G A B y n l   these are as long as the setting needs them, n is the length of a row of sums, and l is the lift
 --   SumRowReady G A B y n l i a   so it is for row i, a is the answer of the rows before, and no number of the row is large
---   sum_row_ready         so it is for each row, where it is so for all
 --   RowCompared G A B y i a   a is the answer of the rows up to row i where they agree, else that of all rows
---   few_agree             no more sums than that agree with their claims
---   row_untrue, row_true  the answer of the row, by how many agree up to the first that does not
 use Rattle.std.specs.Prelude.{◌≡◌, ℕ, ◌+◌, ◌*◌, ◌/◌, ◌%◌, ◌^◌, ◌<◌, ◌≤◌, Bool, List, length, ℤ, ◌==◌, slice_index, slice_index_or, refl}
-use Rattle.std.proofs.Common.{mul-le-mul_left, arith, ap, ◌∙◌}
-use Rattle.std.proofs.Math.Arith.{digits_div, digits_mod}
-use Rattle.algebra.specs.Laws.Fills.{line_at, part_of, part_long}
-use Rattle.algebra.specs.Laws.Positions.{row_inside}
+use Rattle.std.proofs.Common.{arith}
+use Rattle.algebra.specs.Laws.Fills.{line_at}
 use Rattle.exact.specs.Rules.{dot_product}
 use Rattle.exact.specs.Laws.Matrices.{RowSums}
 use Rattle.ticket.specs.declared.setting.Setting.{Setting}
 use Rattle.ticket.specs.declared.Answer.{Answer}
 use Rattle.ticket.specs.Rules.{first, answer}
-use Rattle.ticket.specs.Laws.First.{first_within}
-use Rattle.ticket.specs.Laws.Limits.{Within, counts, lift}
-use Rattle.ticket.specs.Laws.Runs.{Steps, RunTo, RunPast, run_several, run_breaks}
+use Rattle.ticket.specs.Laws.Limits.{Within, lift}
+use Rattle.ticket.specs.Laws.Runs.{Steps, RunTo, RunPast}
 
 abbrev pub claimed_for : List ℕ → List ℕ → ℕ → ℕ → Bool
 claimed_for sums claims lift j = (slice_index sums j + lift) % 2 ^ 32 == slice_index claims j
@@ -60,54 +54,3 @@ pub record SumRowReady (G : Setting) (A B : List ℤ) (claims : List ℕ) (row l
 
 abbrev pub RowCompared : Setting → List ℤ → List ℤ → List ℕ → ℕ → Answer → Type 0
 RowCompared G A B claims i after = RunPast (sum_steps G A B claims) (i * G.columns + G.columns) after
-
-pub sum_row_ready : {G : Setting} {A B : List ℤ} {claims : List ℕ} {row lifting i : ℕ} {before : Answer}
-    → SumsReady G A B claims row lifting → i < G.rows → RunTo (sum_steps G A B claims) (i * G.columns) before → SumRowReady G A B claims row lifting i before
-sum_row_ready {G} sums l run =
-    let within = row_inside G.columns l in
-    let most = counts sums.limits.sizes in
-    record {
-      sums = sums;
-      run = run;
-      row_ends = omega (arith, row_inside G.inner l, sums.rows_long);
-      claims_end = omega (arith, sums.claims_long);
-      within = within;
-      few = omega (arith, most.claims);
-      few_products = omega (arith, mul-le-mul_left G.inner within, most.products, most.sizes.inner);
-      made = ap (λ a. a.products) run.answer_is;
-    }
-
-module _ {G : Setting} {A B : List ℤ} {claims old sums : List ℕ} {lifting i : ℕ} {before : Answer}
-    (summed : RowSums (line_at A G.inner i) B old sums) (ready : SumRowReady G A B claims (length old) lifting i before) where
-  alike : (j : ℕ) → j < G.columns
-      → claimed_for sums (line_at claims G.columns i) lifting j ≡ (sum_steps G A B claims).holds (i * G.columns + j)
-  alike j l =
-      let n = G.columns in
-      let row_long = part_long A (i * G.inner) G.inner ready.row_ends in
-      let column : j * G.inner + G.inner ≤ length B = omega (arith, row_inside G.inner l, ready.sums.columns_long) in
-      let sum : slice_index_or sums j 0 ≡ line_sum A B G.inner i j =
-      (rw row_long at (summed.each j)) (omega (arith, ready.sums.row_is)) column in
-      rw (digits_div i l, digits_mod i l, sum, ready.sums.lifting_is, part_of claims (i * n) n j 0 l)
-
-  module _ {count : ℕ} (count-is : count ≡ first (length sums) (claimed_for sums (line_at claims G.columns i) lifting)) where
-    row_long : length sums ≡ G.columns
-    row_long = summed.long ∙ ready.sums.row_is
-
-    counted : count ≡ first G.columns (claimed_for sums (line_at claims G.columns i) lifting)
-    counted = rw row_long at count-is
-
-    pub few_agree : (count ≤ G.columns) × (G.inner * count ≤ G.inner * G.columns)
-    few_agree =
-        let within : count ≤ G.columns = omega (arith, counted, first_within G.columns (claimed_for sums (line_at claims G.columns i) lifting)) in
-        (within, mul-le-mul_left G.inner within)
-
-    pub row_untrue : {products : ℕ} → count < G.columns → products ≡ before.products + G.inner * count + G.inner
-        → RowCompared G A B claims i (answer 16 (i * G.columns + count) 0 products)
-    row_untrue l e =
-        run_breaks ready.run ready.within _ alike counted l (ap (answer 16 (i * G.columns + count) 0) (omega (arith, ready.made)))
-
-    pub row_true : {products : ℕ} → G.columns ≤ count → products ≡ before.products + G.inner * count
-        → RowCompared G A B claims i (answer 0 0 0 products)
-    row_true l e =
-        let all : count ≡ G.columns = omega (arith, few_agree) in
-        run_several ready.run ready.within _ alike counted l (ap (answer 0 0 0) (omega (arith, ready.made, ap (λ n. G.inner * n) all)))

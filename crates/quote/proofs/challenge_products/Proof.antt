@@ -3,7 +3,8 @@ use native.Mathlib.Omega.{arith}
 use Prim.Native.Nat.{◌+◌, ◌*◌, ◌≤◌}
 use borrow.Author.Rules.{rules}
 use Rattle.ticket.specs.Rules.{most_inner, most_columns, most_rows, most_vectors}
-use Rattle.ticket.specs.Laws.Limits.{Counts, counts, bias_columns_most}
+use Rattle.ticket.specs.Laws.Limits.{Counts}
+use Rattle.ticket.proofs.Laws.Limits.{counts, bias_columns_most}
 use Rattle.challenge.specs.Rules.{vector_products, challenge_products}
 use Rattle.quote.proofs.challenge_products.Statement.{statement}
 use Rattle.quote.proofs.challenge_products.Tie as tie

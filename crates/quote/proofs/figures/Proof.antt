@@ -2,8 +2,9 @@ use native.Mathlib.Omega.{arith}
 use borrow.Author.Rules.{rules}
 use mathlib.Core.Path.{◌≡◌, ap}
 use Rattle.ticket.specs.Rules.{ticket_length}
-use Rattle.ticket.specs.Laws.Layout.{length_most}
-use Rattle.ticket.specs.Laws.Limits.{clamped, clamped_same, counts}
+use Rattle.ticket.proofs.Laws.Layout.{length_most}
+use Rattle.ticket.specs.Laws.Limits.{clamped}
+use Rattle.ticket.proofs.Laws.Limits.{clamped_same, counts}
 use Rattle.quote.proofs.figures.Statement.{statement}
 use Rattle.quote.proofs.figures.Tie as tie
 

@@ -4,11 +4,11 @@ use mathlib.Core.Path.{◌≡◌, sym, ap, ◌∙◌}
 use borrow.Author.Count.{below_more}
 use borrow.Author.Rules.{rules}
 use Rattle.ticket.specs.Rules.{most_width, setting_number}
-use Rattle.ticket.specs.Laws.Limits.{number_by_lem, limits_of, setting_holds}
+use Rattle.ticket.proofs.Laws.Limits.{number_by_lem, limits_of, setting_holds}
 use Rattle.ticket.specs.Laws.Widths.{widened}
 use Rattle.quote.specs.Rules.{figures}
-use Rattle.quote.specs.Laws.Widths.{TriedBelow, Tried, tried, tried_fits, tried_unfit, tried_refused, first_fitting, none_fitting}
-use Rattle.quote.specs.Laws.Quotes.{quote_of_lem, limit_fails, no_width, smallest_width_lem, figures_unread}
+use Rattle.quote.proofs.Laws.Widths.{TriedBelow, Tried, tried, tried_fits, tried_unfit, tried_refused, first_fitting, none_fitting}
+use Rattle.quote.proofs.Laws.Quotes.{quote_of_lem, limit_fails, no_width, smallest_width_lem, figures_unread}
 use Rattle.quote.proofs.quote_of.Statement.{statement}
 use Rattle.quote.proofs.quote_of.Tie as tie
 

@@ -1,5 +1,5 @@
 use borrow.Author.Rules.{rules}
-use Rattle.files.specs.Laws.Starts.{read_decides}
+use Rattle.files.proofs.Laws.Starts.{read_decides}
 use Rattle.ticket_check.proofs.check.Statement.{statement}
 use Rattle.ticket_check.proofs.check.Tie as tie
 

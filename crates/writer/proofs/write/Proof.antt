@@ -1,11 +1,13 @@
 use Rattle.std.proofs.Common.{◌≡◌, ◌<◌, ◌≤◌, length, sym, ap, ◌∙◌, arith, rules}
 use Rattle.ticket.specs.Rules.{answer, setting_number, setting_tests, ticket_length, sum_products}
-use Rattle.ticket.specs.Laws.Layout.{length_most}
-use Rattle.ticket.specs.Laws.Limits.{setting_holds, number_by_lem, limits_of, clamped, clamped_same, counts}
+use Rattle.ticket.proofs.Laws.Layout.{length_most}
+use Rattle.ticket.specs.Laws.Limits.{clamped}
+use Rattle.ticket.proofs.Laws.Limits.{setting_holds, number_by_lem, limits_of, clamped_same, counts}
 use Rattle.ticket.specs.Laws.Tests.{AllHold}
 use Rattle.writer.specs.Rules.{operands_reading, written}
-use Rattle.writer.specs.Laws.Answers.{Writable, output_short, writing_of, setting_refused, operands_refused, passed_operands}
-use Rattle.writer.specs.Laws.Tickets.{refused, all_written}
+use Rattle.writer.specs.Laws.Answers.{Writable}
+use Rattle.writer.proofs.Laws.Answers.{output_short, writing_of, setting_refused, operands_refused, passed_operands}
+use Rattle.writer.proofs.Laws.Tickets.{refused, all_written}
 use Rattle.writer.proofs.write.Statement.{statement}
 use Rattle.writer.proofs.write.Tie as tie
 

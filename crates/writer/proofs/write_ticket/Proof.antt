@@ -1,8 +1,8 @@
 use Rattle.std.proofs.Common.{◌≤◌, length, arith, rules}
 use Rattle.ticket.specs.Rules.{ticket_length}
-use Rattle.writer.specs.Laws.Entries.{limits}
-use Rattle.writer.specs.Laws.Rows.{claims_early}
-use Rattle.writer.specs.Laws.Tickets.{ready_a, ready_b, ready_c, ticket_wrote}
+use Rattle.writer.proofs.Laws.Entries.{limits}
+use Rattle.writer.proofs.Laws.Rows.{claims_early}
+use Rattle.writer.proofs.Laws.Tickets.{ready_a, ready_b, ready_c, ticket_wrote}
 use Rattle.writer.proofs.write_ticket.Statement.{statement}
 use Rattle.writer.proofs.write_ticket.Tie as tie
 

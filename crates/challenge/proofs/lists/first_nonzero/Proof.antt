@@ -6,7 +6,7 @@ use mathlib.Core.Bool.{true}
 use borrow.Author.Count.{below_more}
 use lib.Dec.{eqb}
 use lib.ListN.{length, get_or}
-use Rattle.ticket.specs.Laws.First.{first_is, first_none}
+use Rattle.ticket.proofs.Laws.First.{first_is, first_none}
 use Rattle.challenge.proofs.lists.first_nonzero.Statement.{statement}
 use Rattle.challenge.proofs.lists.first_nonzero.Tie as tie
 

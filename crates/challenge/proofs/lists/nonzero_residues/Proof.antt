@@ -4,8 +4,9 @@ use native.Mathlib.Omega.{arith}
 use mathlib.Core.Path.{◌≡◌}
 use lib.ListN.{length}
 use borrow.Author.Rules.{rules}
-use Rattle.residue.specs.Laws.Modulus.{modulus_positive}
-use Rattle.ticket.specs.Laws.All.{all, all_none, all_next}
+use Rattle.residue.proofs.Laws.Modulus.{modulus_positive}
+use Rattle.ticket.specs.Laws.All.{all}
+use Rattle.ticket.proofs.Laws.All.{all_none, all_next}
 use Rattle.challenge.specs.Laws.Lists.{nonzero_residue}
 use Rattle.challenge.proofs.lists.nonzero_residues.Statement.{statement}
 use Rattle.challenge.proofs.lists.nonzero_residues.Tie as tie

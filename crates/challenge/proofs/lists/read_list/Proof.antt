@@ -1,7 +1,7 @@
 use native.Mathlib.Omega.{arith}
 use mathlib.Core.Path.{sym, ◌∙◌}
 use borrow.Author.Rules.{rules}
-use Rattle.challenge.specs.Laws.Lists.{other_length, all_nonzero, list_numbers, list_vectors}
+use Rattle.challenge.proofs.Laws.Lists.{other_length, all_nonzero, list_numbers, list_vectors}
 use Rattle.challenge.proofs.lists.read_list.Statement.{statement}
 use Rattle.challenge.proofs.lists.read_list.Tie as tie
 

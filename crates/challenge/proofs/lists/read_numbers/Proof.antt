@@ -5,7 +5,7 @@ use borrow.Author.Count.{below_more}
 use borrow.Author.Rules.{rules}
 use lib.ListN.{length, get_or}
 use Rattle.residue.specs.Rules.{modulus}
-use Rattle.challenge.specs.Laws.Lists.{numbers_refused, numbers_passed}
+use Rattle.challenge.proofs.Laws.Lists.{numbers_refused, numbers_passed}
 use Rattle.challenge.proofs.lists.read_numbers.Statement.{statement}
 use Rattle.challenge.proofs.lists.read_numbers.Tie as tie
 

@@ -4,10 +4,10 @@ use native.Mathlib.Omega.{arith}
 use mathlib.Core.Path.{◌≡◌, sym}
 use borrow.Author.Count.{below_more}
 use borrow.Author.Rules.{rules}
-use Rattle.algebra.specs.Laws.Positions.{row_inside}
-use Rattle.ticket.specs.Laws.Scans.{refusal_none}
+use Rattle.algebra.proofs.Laws.Positions.{row_inside}
+use Rattle.ticket.proofs.Laws.Scans.{refusal_none}
 use Rattle.challenge.specs.Rules.{vector_number}
-use Rattle.challenge.specs.Laws.Lists.{line_zero, line_other, vectors_refused}
+use Rattle.challenge.proofs.Laws.Lists.{line_zero, line_other, vectors_refused}
 use Rattle.challenge.proofs.lists.read_vectors.Statement.{statement}
 use Rattle.challenge.proofs.lists.read_vectors.Tie as tie
 

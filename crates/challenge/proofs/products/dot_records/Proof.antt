@@ -4,10 +4,11 @@ use native.Mathlib.Omega.{arith}
 use borrow.Author.Rules.{rules}
 use mathlib.Core.Path.{◌≡◌}
 use lib.ListN.{length, get_or}
-use Rattle.residue.specs.Laws.Products.{HoldsSum, holds_none}
+use Rattle.residue.proofs.Laws.Products.{HoldsSum, holds_none}
 use Rattle.ticket.specs.Rules.{record_bytes}
-use Rattle.ticket.specs.Laws.Forms.{slice_long, last_word}
-use Rattle.challenge.specs.Laws.Products.{terms, dot_of, reduced, term_fits, term_more, held_all}
+use Rattle.ticket.proofs.Laws.Forms.{slice_long, last_word}
+use Rattle.challenge.specs.Laws.Products.{terms, dot_of}
+use Rattle.challenge.proofs.Laws.Products.{reduced, term_fits, term_more, held_all}
 use Rattle.challenge.proofs.products.dot_records.Statement.{statement}
 use Rattle.challenge.proofs.products.dot_records.Tie as tie
 

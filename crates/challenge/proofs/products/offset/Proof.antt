@@ -3,7 +3,7 @@ use Prim.Native.Nat.{◌-◌, ◌≤◌}
 use native.Mathlib.Omega.{arith}
 use borrow.Author.Rules.{rules}
 use lib.ListN.{length, get_or}
-use Rattle.challenge.specs.Laws.Products.{Reached, reached_none, reached_more, total_fits, offset_made, offset_fits}
+use Rattle.challenge.proofs.Laws.Products.{Reached, reached_none, reached_more, total_fits, offset_made, offset_fits}
 use Rattle.challenge.proofs.products.offset.Statement.{statement}
 use Rattle.challenge.proofs.products.offset.Tie as tie
 

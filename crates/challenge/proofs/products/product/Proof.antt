@@ -2,9 +2,11 @@
 use Prim.Native.Nat.{◌-◌, ◌≤◌, ◌<◌}
 use native.Mathlib.Omega.{arith}
 use lib.ListN.{length}
-use Rattle.algebra.specs.Laws.Fills.{Filled, filled_none, filled_more, filled_all}
-use Rattle.algebra.specs.Laws.Positions.{row_inside}
-use Rattle.challenge.specs.Laws.Products.{rows_times, records_ready}
+use Rattle.algebra.specs.Laws.Fills.{Filled}
+use Rattle.algebra.proofs.Laws.Fills.{filled_none, filled_more, filled_all}
+use Rattle.algebra.proofs.Laws.Positions.{row_inside}
+use Rattle.challenge.specs.Laws.Products.{rows_times}
+use Rattle.challenge.proofs.Laws.Products.{records_ready}
 use Rattle.challenge.proofs.products.product.Statement.{statement}
 use Rattle.challenge.proofs.products.product.Tie as tie
 

@@ -4,7 +4,8 @@ use native.Mathlib.Decide.{dec_lt}
 use native.Mathlib.Omega.{arith}
 use mathlib.Core.Path.{◌≡◌, refl}
 use lib.ListN.{length, get_or}
-use Rattle.algebra.specs.Laws.Fills.{Filled, filled_none, filled_more, filled_all}
+use Rattle.algebra.specs.Laws.Fills.{Filled}
+use Rattle.algebra.proofs.Laws.Fills.{filled_none, filled_more, filled_all}
 use Rattle.challenge.proofs.products.widen.Statement.{statement}
 use Rattle.challenge.proofs.products.widen.Tie as tie
 

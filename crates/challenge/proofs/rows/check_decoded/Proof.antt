@@ -3,9 +3,9 @@ use borrow.Author.Rules.{rules}
 use mathlib.Core.Path.{refl, sym}
 use lib.Seq.{length-take-le}
 use Rattle.ticket.specs.Laws.Limits.{Counts}
-use Rattle.ticket.specs.Laws.Passes.{passes_of}
-use Rattle.challenge.specs.Laws.Checks.{check_list, check_rows, rows_can}
-use Rattle.challenge.specs.Laws.Sides.{decoded_by, room_within, room_front, room_rest}
+use Rattle.ticket.proofs.Laws.Passes.{passes_of}
+use Rattle.challenge.proofs.Laws.Checks.{check_list, check_rows, rows_can}
+use Rattle.challenge.proofs.Laws.Sides.{decoded_by, room_within, room_front, room_rest}
 use Rattle.challenge.proofs.rows.check_decoded.Statement.{statement}
 use Rattle.challenge.proofs.rows.check_decoded.Tie as tie
 

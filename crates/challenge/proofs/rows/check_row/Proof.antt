@@ -1,5 +1,5 @@
 use borrow.Author.Rules.{rules}
-use Rattle.challenge.specs.Laws.Rows.{row_caught, row_balanced}
+use Rattle.challenge.proofs.Laws.Rows.{row_caught, row_balanced}
 use Rattle.challenge.proofs.rows.check_row.Statement.{statement}
 use Rattle.challenge.proofs.rows.check_row.Tie as tie
 

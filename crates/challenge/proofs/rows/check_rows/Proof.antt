@@ -5,8 +5,10 @@ use borrow.Author.Rules.{rules}
 use lib.Seq.{length-take-le}
 use mathlib.Core.Path.{◌≡◌, sym, ap}
 use Rattle.ticket.specs.Rules.{answer}
-use Rattle.ticket.specs.Laws.Runs.{step_answer, RunTo, run_none, run_next, run_stopped, run_ended}
-use Rattle.challenge.specs.Laws.Rows.{row_steps, line_inside, bias_within, row_sides, row_step}
+use Rattle.ticket.specs.Laws.Runs.{step_answer, RunTo}
+use Rattle.ticket.proofs.Laws.Runs.{run_none, run_next, run_stopped, run_ended}
+use Rattle.challenge.specs.Laws.Rows.{row_steps}
+use Rattle.challenge.proofs.Laws.Rows.{line_inside, bias_within, row_sides, row_step}
 use Rattle.challenge.proofs.rows.check_rows.Statement.{statement}
 use Rattle.challenge.proofs.rows.check_rows.Tie as tie
 

@@ -1,5 +1,5 @@
 use borrow.Author.Rules.{rules}
-use Rattle.challenge.specs.Laws.Vectors.{line_within, line_fits, matrix_ready, rows_ready, vector_answered}
+use Rattle.challenge.proofs.Laws.Vectors.{line_within, line_fits, matrix_ready, rows_ready, vector_answered}
 use Rattle.challenge.proofs.rows.check_vector.Statement.{statement}
 use Rattle.challenge.proofs.rows.check_vector.Tie as tie
 

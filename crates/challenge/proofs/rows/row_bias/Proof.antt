@@ -1,7 +1,7 @@
 use native.Mathlib.Omega.{arith}
 use borrow.Author.Rules.{rules}
-use Rattle.residue.specs.Laws.Products.{product_below}
-use Rattle.challenge.specs.Laws.Products.{dot_none}
+use Rattle.residue.proofs.Laws.Products.{product_below}
+use Rattle.challenge.proofs.Laws.Products.{dot_none}
 use Rattle.challenge.proofs.rows.row_bias.Statement.{statement}
 use Rattle.challenge.proofs.rows.row_bias.Tie as tie
 

@@ -1,6 +1,6 @@
 use borrow.Author.Rules.{rules}
 use mathlib.Core.Path.{refl}
-use Rattle.challenge.specs.Laws.Single.{entries_cut, quotients_cut, remainders_cut, row_decoded}
+use Rattle.challenge.proofs.Laws.Single.{entries_cut, quotients_cut, remainders_cut, row_decoded}
 use Rattle.challenge.proofs.single.decode_row.Statement.{statement}
 use Rattle.challenge.proofs.single.decode_row.Tie as tie
 

@@ -2,9 +2,9 @@ use native.Mathlib.Omega.{arith}
 use borrow.Author.Rules.{rules}
 use mathlib.Core.Path.{sym}
 use lib.Seq.{length-take-le}
-use Rattle.residue.specs.Laws.Modulus.{modulus_above}
-use Rattle.ticket.specs.Laws.Limits.{lift_made}
-use Rattle.challenge.specs.Laws.Single.{bias_inside, single_sides, single_balanced}
+use Rattle.residue.proofs.Laws.Modulus.{modulus_above}
+use Rattle.ticket.proofs.Laws.Limits.{lift_made}
+use Rattle.challenge.proofs.Laws.Single.{bias_inside, single_sides, single_balanced}
 use Rattle.challenge.proofs.single.line_balanced.Statement.{statement}
 use Rattle.challenge.proofs.single.line_balanced.Tie as tie
 

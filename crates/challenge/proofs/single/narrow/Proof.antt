@@ -3,7 +3,8 @@ use Prim.Native.Nat.{◌-◌, ◌%◌, ◌^◌, ◌≤◌}
 use native.Mathlib.Omega.{arith}
 use mathlib.Core.Path.{refl}
 use lib.ListN.{length, get_or}
-use Rattle.algebra.specs.Laws.Fills.{Filled, filled_none, filled_more, filled_all}
+use Rattle.algebra.specs.Laws.Fills.{Filled}
+use Rattle.algebra.proofs.Laws.Fills.{filled_none, filled_more, filled_all}
 use Rattle.challenge.proofs.single.narrow.Statement.{statement}
 use Rattle.challenge.proofs.single.narrow.Tie as tie
 

@@ -1,6 +1,6 @@
 use native.Mathlib.Omega.{arith}
 use borrow.Author.Rules.{rules}
-use Rattle.challenge.specs.Laws.Single.{line_matrix, product_first, product_later}
+use Rattle.challenge.proofs.Laws.Single.{line_matrix, product_first, product_later}
 use Rattle.challenge.proofs.single.product_at.Statement.{statement}
 use Rattle.challenge.proofs.single.product_at.Tie as tie
 

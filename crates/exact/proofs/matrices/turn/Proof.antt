@@ -1,7 +1,8 @@
 -- The loop keeps the numbers of the rows before this one at their places.
 use Rattle.std.proofs.Common.{◌-◌, ◌*◌, ◌≤◌, refl, ⊎_elim, mul-le-mul_right, add-mul, one-mul, zero-mul, arith}
-use Rattle.residue.specs.Laws.Products.{product_below}
-use Rattle.exact.specs.Laws.Matrices.{TurnedTo, turned_none, turned_all}
+use Rattle.residue.proofs.Laws.Products.{product_below}
+use Rattle.exact.specs.Laws.Matrices.{TurnedTo}
+use Rattle.exact.proofs.Laws.Matrices.{turned_none, turned_all}
 use Rattle.exact.proofs.matrices.turn.Statement.{statement}
 use Rattle.exact.proofs.matrices.turn.Tie as tie
 

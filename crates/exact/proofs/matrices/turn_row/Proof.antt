@@ -1,7 +1,8 @@
 -- The loop keeps the numbers of the rows before, and the first ones of this row, at their places, and in `at` the place of the next.
 use Rattle.std.proofs.Common.{◌≡◌, ◌+◌, ◌-◌, ◌*◌, ◌≤◌, refl, add-zero, arith, to_z-of_z, w16}
-use Rattle.algebra.specs.Laws.Positions.{row_inside}
-use Rattle.exact.specs.Laws.Matrices.{TurnedFurther, turned_further}
+use Rattle.algebra.proofs.Laws.Positions.{row_inside}
+use Rattle.exact.specs.Laws.Matrices.{TurnedFurther}
+use Rattle.exact.proofs.Laws.Matrices.{turned_further}
 use Rattle.exact.proofs.matrices.turn_row.Statement.{statement}
 use Rattle.exact.proofs.matrices.turn_row.Tie as tie
 

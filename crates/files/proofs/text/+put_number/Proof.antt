@@ -3,7 +3,7 @@ use native.Mathlib.Omega.{arith}
 use borrow.Author.Rules.{rules}
 use borrow.Fn.Kinds.{In}
 use borrow.Fn.PlainCycle.{Measures, is, falls, and}
-use Rattle.files.specs.Laws.Lines.{digit_room, length_longer, put_digit, put_digits}
+use Rattle.files.proofs.Laws.Lines.{digit_room, length_longer, put_digit, put_digits}
 use Rattle.files.proofs.text.put_number.Reads as reads
 use Rattle.files.proofs.text.put_number.Kinds as kinds
 use Rattle.files.proofs.text.+put_number.Lts-put_number as lts

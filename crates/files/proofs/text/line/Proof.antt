@@ -1,5 +1,5 @@
 use borrow.Author.Rules.{rules}
-use Rattle.files.specs.Laws.Lines.{put_line}
+use Rattle.files.proofs.Laws.Lines.{put_line}
 use Rattle.files.proofs.text.line.Statement.{statement}
 use Rattle.files.proofs.text.line.Tie as tie
 

@@ -1,6 +1,6 @@
 use native.Mathlib.Omega.{arith}
 use borrow.Author.Rules.{rules}
-use Rattle.files.specs.Laws.Lines.{number_short, put_end}
+use Rattle.files.proofs.Laws.Lines.{number_short, put_end}
 use Rattle.files.proofs.text.put_field.Statement.{statement}
 use Rattle.files.proofs.text.put_field.Tie as tie
 

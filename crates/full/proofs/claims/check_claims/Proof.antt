@@ -1,5 +1,5 @@
 use Rattle.std.proofs.Common.{rules, leb-true}
-use Rattle.full.specs.Laws.Claims.{small_space}
+use Rattle.full.proofs.Laws.Claims.{small_space}
 use Rattle.full.proofs.claims.check_claims.Statement.{statement}
 use Rattle.full.proofs.claims.check_claims.Tie as tie
 

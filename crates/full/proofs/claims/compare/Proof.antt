@@ -1,8 +1,10 @@
 -- The loop keeps that the sums of the rows before this one agree with their claims, with the answer so far.
 use Rattle.std.proofs.Common.{◌≡◌, ◌-◌, ◌*◌, ◌≤◌, length, refl, ap, ◌∙◌, mul-le-mul_right, arith, rules}
 use Rattle.ticket.specs.Rules.{answer}
-use Rattle.ticket.specs.Laws.Runs.{RunTo, run_none, run_ended, run_at}
-use Rattle.full.specs.Laws.Sums.{sum_steps, sum_row_ready}
+use Rattle.ticket.specs.Laws.Runs.{RunTo}
+use Rattle.ticket.proofs.Laws.Runs.{run_none, run_ended, run_at}
+use Rattle.full.specs.Laws.Sums.{sum_steps}
+use Rattle.full.proofs.Laws.Sums.{sum_row_ready}
 use Rattle.full.proofs.claims.compare.Statement.{statement}
 use Rattle.full.proofs.claims.compare.Tie as tie
 

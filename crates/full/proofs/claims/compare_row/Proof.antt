@@ -1,5 +1,5 @@
 use Rattle.std.proofs.Common.{◌*◌, ◌≤◌, arith, rules}
-use Rattle.full.specs.Laws.Sums.{few_agree, row_untrue, row_true}
+use Rattle.full.proofs.Laws.Sums.{few_agree, row_untrue, row_true}
 use Rattle.full.proofs.claims.compare_row.Statement.{statement}
 use Rattle.full.proofs.claims.compare_row.Tie as tie
 

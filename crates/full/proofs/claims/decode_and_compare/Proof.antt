@@ -1,6 +1,6 @@
 use Rattle.std.proofs.Common.{◌≡◌, ◌^◌, ◌<◌, sym, ◌∙◌, arith, length-take-le, rules}
 use Rattle.ticket.specs.Laws.Limits.{lift}
-use Rattle.full.specs.Laws.Claims.{ListsHold, lists_hold, lifting_is, sums_ready, sums_verdict}
+use Rattle.full.proofs.Laws.Claims.{ListsHold, lists_hold, lifting_is, sums_ready, sums_verdict}
 use Rattle.full.proofs.claims.decode_and_compare.Statement.{statement}
 use Rattle.full.proofs.claims.decode_and_compare.Tie as tie
 

@@ -1,6 +1,6 @@
 -- no bit is shifted out of the word
 use Rattle.std.proofs.Common.{sym, arith, shl_exact}
-use Rattle.residue.specs.Laws.Powers.{power_beyond, power_within}
+use Rattle.residue.proofs.Laws.Powers.{power_beyond, power_within}
 use Rattle.residue.proofs.Residue.power_of_two.Goals as goal
 
 pub returns-then-k-gt-LARGEST_EXPONENT : goal.returns-then-k-gt-LARGEST_EXPONENT

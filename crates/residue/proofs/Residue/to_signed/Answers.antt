@@ -4,8 +4,8 @@ use Rattle.std.proofs.Math.Path.{ap}
 use mathlib.Core.Path.{subst⁻¹}
 use mir.Facts.{to_z_pos}
 use Rattle.residue.specs.Rules.{modulus, least_residue}
-use Rattle.residue.specs.Laws.Residues.{less_modulus, entry_low, entry_high}
-use Rattle.residue.specs.Laws.Modulus.{modulus_positive}
+use Rattle.residue.proofs.Laws.Residues.{less_modulus, entry_low, entry_high}
+use Rattle.residue.proofs.Laws.Modulus.{modulus_positive}
 use Rattle.residue.proofs.Residue.to_signed.Goals as goal
 
 -- the least residue as the machine's signed number, and that number less p

@@ -1,8 +1,9 @@
 use borrow.Author.Rules.{rules}
 use mathlib.Core.Path.{refl, sym, ap, ◌∙◌}
 use Rattle.run.specs.Rules.{standing}
-use Rattle.run.specs.Laws.Additions.{Additional, addition_passed, lengthened_sizes}
-use Rattle.run.specs.Laws.States.{tested_refused, tested_passed}
+use Rattle.run.specs.Laws.Additions.{Additional}
+use Rattle.run.proofs.Laws.Additions.{addition_passed, lengthened_sizes}
+use Rattle.run.proofs.Laws.States.{tested_refused, tested_passed}
 use Rattle.run.proofs.Run.add.Statement.{statement}
 use Rattle.run.proofs.Run.add.Tie as tie
 

@@ -5,7 +5,7 @@ use Rattle.ticket.specs.Rules.{plain}
 use Rattle.challenge.specs.Rules.{testing}
 use Rattle.challenge.specs.Laws.Vectors.{ListReady}
 use Rattle.run.specs.Rules.{marked, refused, standing, zeros}
-use Rattle.run.specs.Laws.States.{tested_refused, tested_passed, testing_passed, testing_plain}
+use Rattle.run.proofs.Laws.States.{tested_refused, tested_passed, testing_passed, testing_plain}
 use Rattle.run.proofs.Run.begin.Statement.{statement}
 use Rattle.run.proofs.Run.begin.Tie as tie
 

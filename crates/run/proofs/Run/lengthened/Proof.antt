@@ -3,7 +3,7 @@ use borrow.Author.Rules.{rules}
 use mathlib.Core.Path.{◌≡◌}
 use lib.ListN.{length}
 use Rattle.run.specs.Rules.{most_numbers}
-use Rattle.run.specs.Laws.Additions.{vectors_few, addition_fits, lengthened_made}
+use Rattle.run.proofs.Laws.Additions.{vectors_few, addition_fits, lengthened_made}
 use Rattle.run.proofs.Run.lengthened.Statement.{statement}
 use Rattle.run.proofs.Run.lengthened.Tie as tie
 

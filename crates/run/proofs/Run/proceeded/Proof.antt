@@ -5,7 +5,7 @@ use mathlib.Core.Path.{◌≡◌}
 use mathlib.Core.Bool.{true, not, ◌&&◌}
 use lib.Dec.{eqb}
 use Rattle.run.specs.Rules.{is_finished}
-use Rattle.run.specs.Laws.States.{proceeding, proceeded_none, proceeded_caught, proceeded_within, proceeded_over}
+use Rattle.run.proofs.Laws.States.{proceeding, proceeded_none, proceeded_caught, proceeded_within, proceeded_over}
 use Rattle.run.proofs.Run.proceeded.Statement.{statement}
 use Rattle.run.proofs.Run.proceeded.Tie as tie
 

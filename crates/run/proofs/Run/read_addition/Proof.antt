@@ -6,7 +6,7 @@ use Rattle.challenge.specs.Rules.{list_reading}
 use Rattle.challenge.specs.Laws.Lengthened.{placed_after}
 use lib.ListN.{length}
 use Rattle.run.specs.Rules.{held_list, layer, most_numbers}
-use Rattle.run.specs.Laws.Additions.{reading_held, reading_passes, addition_list, addition_vector, addition_last, closed, opened, vector_plain}
+use Rattle.run.proofs.Laws.Additions.{reading_held, reading_passes, addition_list, addition_vector, addition_last, closed, opened, vector_plain}
 use Rattle.run.proofs.Run.read_addition.Statement.{statement}
 use Rattle.run.proofs.Run.read_addition.Tie as tie
 

@@ -3,8 +3,9 @@ use mathlib.Core.Path.{◌≡◌, ap, ◌∙◌}
 use lib.ListN.{length}
 use Rattle.challenge.specs.Rules.{row_check}
 use Rattle.run.specs.Rules.{held_list, layer, most_numbers, standing, tested}
-use Rattle.run.specs.Laws.Additions.{row_held}
-use Rattle.run.specs.Laws.States.{due, step_sizes, step_made}
+use Rattle.run.proofs.Laws.Additions.{row_held}
+use Rattle.run.specs.Laws.States.{due}
+use Rattle.run.proofs.Laws.States.{step_sizes, step_made}
 use Rattle.run.proofs.Run.step.Statement.{statement}
 use Rattle.run.proofs.Run.step.Tie as tie
 

@@ -6,7 +6,8 @@ use mathlib.Core.Path.{◌≡◌, refl, sym, ap, ◌∙◌}
 use mathlib.Core.Bool.{false}
 use Rattle.ticket.specs.Rules.{answer}
 use Rattle.run.specs.Rules.{is_past, is_caught, under_way, caught_mark, complete, marked}
-use Rattle.run.specs.Laws.States.{DoneReady, done_accepted, done_caught, not_past, standing_past, standing_caught, standing_under, tested_refused, tested_passed}
+use Rattle.run.specs.Laws.States.{DoneReady}
+use Rattle.run.proofs.Laws.States.{done_accepted, done_caught, not_past, standing_past, standing_caught, standing_under, tested_refused, tested_passed}
 use Rattle.run.proofs.Run.told.Statement.{statement}
 use Rattle.run.proofs.Run.told.Tie as tie
 

@@ -3,7 +3,7 @@ use borrow.Author.Rules.{rules}
 use mathlib.Core.Path.{sym, ap, ◌∙◌}
 use Rattle.ticket.specs.Rules.{plain}
 use Rattle.run.specs.Rules.{products_done}
-use Rattle.run.specs.Laws.States.{DoneSmall, done_small, done_none, done_some}
+use Rattle.run.proofs.Laws.States.{DoneSmall, done_small, done_none, done_some}
 use Rattle.run.proofs.answers.products_done.Statement.{statement}
 use Rattle.run.proofs.answers.products_done.Tie as tie
 

@@ -1,6 +1,6 @@
 use native.Mathlib.Omega.{arith}
 use borrow.Author.Rules.{rules}
-use Rattle.run.specs.Laws.Additions.{begun_made}
+use Rattle.run.proofs.Laws.Additions.{begun_made}
 use Rattle.run.proofs.lists.begun.Statement.{statement}
 use Rattle.run.proofs.lists.begun.Tie as tie
 

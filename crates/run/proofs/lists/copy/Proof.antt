@@ -3,7 +3,8 @@ use Prim.Native.Nat.{◌-◌, ◌≤◌}
 use native.Mathlib.Omega.{arith}
 use mathlib.Core.Path.{refl}
 use lib.ListN.{length, get_or}
-use Rattle.algebra.specs.Laws.Fills.{Filled, filled_none, filled_more, filled_all}
+use Rattle.algebra.specs.Laws.Fills.{Filled}
+use Rattle.algebra.proofs.Laws.Fills.{filled_none, filled_more, filled_all}
 use Rattle.run.proofs.lists.copy.Statement.{statement}
 use Rattle.run.proofs.lists.copy.Tie as tie
 

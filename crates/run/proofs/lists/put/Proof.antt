@@ -1,5 +1,5 @@
 use borrow.Author.Rules.{rules}
-use Rattle.run.specs.Laws.Additions.{put_list}
+use Rattle.run.proofs.Laws.Additions.{put_list}
 use Rattle.run.proofs.lists.put.Statement.{statement}
 use Rattle.run.proofs.lists.put.Tie as tie
 

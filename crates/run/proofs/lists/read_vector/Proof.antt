@@ -4,7 +4,7 @@ use borrow.Author.Rules.{rules}
 use mathlib.Core.Path.{◌∙◌}
 use Rattle.ticket.specs.Rules.{most_columns, most_vectors}
 use Rattle.run.specs.Rules.{most_numbers}
-use Rattle.run.specs.Laws.Additions.{place_fits, vector_large, vector_zeros, vector_neither}
+use Rattle.run.proofs.Laws.Additions.{place_fits, vector_large, vector_zeros, vector_neither}
 use Rattle.run.proofs.lists.read_vector.Statement.{statement}
 use Rattle.run.proofs.lists.read_vector.Tie as tie
 

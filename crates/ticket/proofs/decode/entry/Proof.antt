@@ -1,7 +1,8 @@
 use Rattle.std.proofs.Common.{◌≡◌, ℕ, ◌%◌, ◌^◌, ◌<◌, pos, ◌-ℤ◌, ap, ◌∙◌, arith, to_z-of_z, w32, SFits, to_z, rules}
 use mathlib.Core.Path.{subst⁻¹}
 use mir.Facts.{sfits_widen, to_z_pos}
-use Rattle.ticket.specs.Laws.Decodes.{narrow_shift, narrowed, narrow_bits}
+use Rattle.ticket.specs.Laws.Decodes.{narrow_shift, narrowed}
+use Rattle.ticket.proofs.Laws.Decodes.{narrow_bits}
 use Rattle.ticket.proofs.decode.entry.Statement.{statement}
 use Rattle.ticket.proofs.decode.entry.Tie as tie
 

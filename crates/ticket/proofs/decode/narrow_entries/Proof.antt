@@ -1,9 +1,11 @@
 -- The loop keeps the entries of the records before i in the list.
 use Rattle.std.proofs.Common.{◌-◌, ◌≤◌, pos, ◌∙◌, arith, w16, w32, SFits, rules}
-use Rattle.residue.specs.Laws.Modulus.{modulus_above}
-use Rattle.residue.specs.Laws.Signed.{read_fits, read_stored}
-use Rattle.algebra.specs.Laws.Fills.{Filled, filled_none, filled_more}
-use Rattle.ticket.specs.Laws.Decodes.{narrow_at, narrow_bits, filled_to}
+use Rattle.residue.proofs.Laws.Modulus.{modulus_above}
+use Rattle.residue.proofs.Laws.Signed.{read_fits, read_stored}
+use Rattle.algebra.specs.Laws.Fills.{Filled}
+use Rattle.algebra.proofs.Laws.Fills.{filled_none, filled_more}
+use Rattle.ticket.specs.Laws.Decodes.{narrow_at}
+use Rattle.ticket.proofs.Laws.Decodes.{narrow_bits, filled_to}
 use Rattle.ticket.proofs.decode.narrow_entries.Statement.{statement}
 use Rattle.ticket.proofs.decode.narrow_entries.Tie as tie
 

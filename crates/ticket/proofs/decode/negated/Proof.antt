@@ -1,5 +1,5 @@
 use Rattle.std.proofs.Common.{arith, rules}
-use Rattle.ticket.specs.Laws.Decodes.{negated_by}
+use Rattle.ticket.proofs.Laws.Decodes.{negated_by}
 use Rattle.ticket.proofs.decode.negated.Statement.{statement}
 use Rattle.ticket.proofs.decode.negated.Tie as tie
 

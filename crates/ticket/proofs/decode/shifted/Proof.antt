@@ -1,6 +1,6 @@
 use Rattle.std.proofs.Common.{arith, rules}
-use Rattle.residue.specs.Laws.Modulo.{carried_words}
-use Rattle.residue.specs.Laws.Modulus.{modulus_above, modulus_below}
+use Rattle.residue.proofs.Laws.Modulo.{carried_words}
+use Rattle.residue.proofs.Laws.Modulus.{modulus_above, modulus_below}
 use Rattle.ticket.proofs.decode.shifted.Statement.{statement}
 use Rattle.ticket.proofs.decode.shifted.Tie as tie
 

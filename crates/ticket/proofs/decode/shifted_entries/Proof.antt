@@ -1,7 +1,9 @@
 -- The loop keeps the values of the records before k in the list, each with the shift added.
 use Rattle.std.proofs.Common.{◌-◌, ◌≤◌, ◌∙◌, arith, rules}
-use Rattle.algebra.specs.Laws.Fills.{Filled, filled_none, filled_more}
-use Rattle.ticket.specs.Laws.Decodes.{shifted_at, filled_to}
+use Rattle.algebra.specs.Laws.Fills.{Filled}
+use Rattle.algebra.proofs.Laws.Fills.{filled_none, filled_more}
+use Rattle.ticket.specs.Laws.Decodes.{shifted_at}
+use Rattle.ticket.proofs.Laws.Decodes.{filled_to}
 use Rattle.ticket.proofs.decode.shifted_entries.Statement.{statement}
 use Rattle.ticket.proofs.decode.shifted_entries.Tie as tie
 

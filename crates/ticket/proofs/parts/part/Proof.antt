@@ -1,5 +1,5 @@
 use Rattle.std.proofs.Common.{rules}
-use Rattle.ticket.specs.Laws.Layout.{bytes_cut}
+use Rattle.ticket.proofs.Laws.Layout.{bytes_cut}
 use Rattle.ticket.proofs.parts.part.Statement.{statement}
 use Rattle.ticket.proofs.parts.part.Tie as tie
 

@@ -1,5 +1,5 @@
 use Rattle.std.proofs.Common.{◌∙◌, rules}
-use Rattle.ticket.specs.Laws.Forms.{slice_long, last_word}
+use Rattle.ticket.proofs.Laws.Forms.{slice_long, last_word}
 use Rattle.ticket.proofs.parts.value_at.Statement.{statement}
 use Rattle.ticket.proofs.parts.value_at.Tie as tie
 

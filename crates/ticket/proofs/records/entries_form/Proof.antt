@@ -1,5 +1,5 @@
 use Rattle.std.proofs.Common.{arith, rules}
-use Rattle.residue.specs.Laws.Modulus.{modulus_below}
+use Rattle.residue.proofs.Laws.Modulus.{modulus_below}
 use Rattle.ticket.proofs.records.entries_form.Statement.{statement}
 use Rattle.ticket.proofs.records.entries_form.Tie as tie
 

@@ -1,6 +1,6 @@
 use Rattle.std.proofs.Common.{◌≡◌, arith, rules}
-use Rattle.ticket.specs.Laws.Limits.{bias_columns_most, half_small}
-use Rattle.ticket.specs.Laws.Parts.{bounds_small, forms_make}
+use Rattle.ticket.proofs.Laws.Limits.{bias_columns_most, half_small}
+use Rattle.ticket.proofs.Laws.Parts.{bounds_small, forms_make}
 use Rattle.ticket.proofs.records.form_of.Statement.{statement}
 use Rattle.ticket.proofs.records.form_of.Tie as tie
 

@@ -1,5 +1,5 @@
 use Rattle.std.proofs.Common.{◌∙◌, arith, rules}
-use Rattle.ticket.specs.Laws.Forms.{first_word, header_formed}
+use Rattle.ticket.proofs.Laws.Forms.{first_word, header_formed}
 use Rattle.ticket.proofs.records.formed.Statement.{statement}
 use Rattle.ticket.proofs.records.formed.Tie as tie
 

@@ -1,5 +1,5 @@
 use Rattle.std.proofs.Common.{arith, rules}
-use Rattle.ticket.specs.Laws.Passing.{range_by}
+use Rattle.ticket.proofs.Laws.Passing.{range_by}
 use Rattle.ticket.proofs.records.in_range.Statement.{statement}
 use Rattle.ticket.proofs.records.in_range.Tie as tie
 

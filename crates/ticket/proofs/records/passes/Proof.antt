@@ -1,8 +1,10 @@
 -- The loop keeps whether the records of the rows before this one pass.
 use Rattle.std.proofs.Common.{◌≡◌, ◌+◌, ◌-◌, ◌*◌, ◌<◌, ◌≤◌, sym, ◌∙◌, mul-le-mul_right, arith, ltb-false, ltb-true}
-use Rattle.algebra.specs.Laws.Positions.{row_inside}
-use Rattle.ticket.specs.Laws.All.{all, all_none, all_fails}
-use Rattle.ticket.specs.Laws.Passing.{passing, rows_passing}
+use Rattle.algebra.proofs.Laws.Positions.{row_inside}
+use Rattle.ticket.specs.Laws.All.{all}
+use Rattle.ticket.proofs.Laws.All.{all_none, all_fails}
+use Rattle.ticket.specs.Laws.Passing.{passing}
+use Rattle.ticket.proofs.Laws.Passing.{rows_passing}
 use Rattle.ticket.proofs.records.passes.Statement.{statement}
 use Rattle.ticket.proofs.records.passes.Tie as tie
 

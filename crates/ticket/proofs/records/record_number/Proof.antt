@@ -1,6 +1,6 @@
 use Rattle.std.proofs.Common.{sym, ◌∙◌, rules}
 use borrow.Author.Tests.{not-true, not-false}
-use Rattle.ticket.specs.Laws.Forms.{tested_unformed, tested_formed}
+use Rattle.ticket.proofs.Laws.Forms.{tested_unformed, tested_formed}
 use Rattle.ticket.proofs.records.record_number.Statement.{statement}
 use Rattle.ticket.proofs.records.record_number.Tie as tie
 

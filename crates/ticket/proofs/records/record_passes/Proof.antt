@@ -1,5 +1,5 @@
 use Rattle.std.proofs.Common.{rules}
-use Rattle.ticket.specs.Laws.Passing.{record_passing}
+use Rattle.ticket.proofs.Laws.Passing.{record_passing}
 use Rattle.ticket.proofs.records.record_passes.Statement.{statement}
 use Rattle.ticket.proofs.records.record_passes.Tie as tie
 

@@ -1,6 +1,7 @@
 -- The loop keeps whether the records of the row before this column pass.
 use Rattle.std.proofs.Common.{◌≡◌, ◌+◌, ◌-◌, ◌≤◌, ◌∙◌, arith}
-use Rattle.ticket.specs.Laws.All.{all, all_none, all_next}
+use Rattle.ticket.specs.Laws.All.{all}
+use Rattle.ticket.proofs.Laws.All.{all_none, all_next}
 use Rattle.ticket.specs.Laws.Passing.{row_passing}
 use Rattle.ticket.proofs.records.row_passes.Statement.{statement}
 use Rattle.ticket.proofs.records.row_passes.Tie as tie

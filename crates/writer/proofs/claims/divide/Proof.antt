@@ -1,6 +1,6 @@
 use Rattle.std.proofs.Common.{arith, rules}
-use Rattle.residue.specs.Laws.Modulus.{modulus_above}
-use Rattle.writer.specs.Laws.Claims.{half_low, quotient_low, quotient_high, remainder_made}
+use Rattle.residue.proofs.Laws.Modulus.{modulus_above}
+use Rattle.writer.proofs.Laws.Claims.{half_low, quotient_low, quotient_high, remainder_made}
 use Rattle.writer.proofs.claims.divide.Statement.{statement}
 use Rattle.writer.proofs.claims.divide.Tie as tie
 

@@ -1,5 +1,5 @@
 use Rattle.std.proofs.Common.{rules}
-use Rattle.writer.specs.Laws.Rows.{tiny_room, most_room, most_entries}
+use Rattle.writer.proofs.Laws.Rows.{tiny_room, most_room, most_entries}
 use Rattle.writer.proofs.claims.write_claims.Statement.{statement}
 use Rattle.writer.proofs.claims.write_claims.Tie as tie
 

@@ -2,7 +2,8 @@
 use Rattle.std.proofs.Common.{◌≡◌, ◌+◌, ◌-◌, ◌*◌, ◌^◌, ◌<◌, ◌≤◌, length, ◌∙◌, arith, rules}
 use Rattle.algebra.specs.Rules.{word}
 use Rattle.ticket.specs.Rules.{record_bytes}
-use Rattle.writer.specs.Laws.Rows.{RowTo, row_none, row_claim}
+use Rattle.writer.specs.Laws.Rows.{RowTo}
+use Rattle.writer.proofs.Laws.Rows.{row_none, row_claim}
 use Rattle.writer.proofs.claims.write_row.Statement.{statement}
 use Rattle.writer.proofs.claims.write_row.Tie as tie
 

@@ -1,5 +1,5 @@
 use Rattle.std.proofs.Common.{sym, arith, length-take-le, rules}
-use Rattle.writer.specs.Laws.Entries.{long_b}
+use Rattle.writer.proofs.Laws.Entries.{long_b}
 use Rattle.writer.proofs.claims.write_with.Statement.{statement}
 use Rattle.writer.proofs.claims.write_with.Tie as tie
 

@@ -1,6 +1,6 @@
 use Rattle.std.proofs.Common.{sym, ap, ◌∙◌, rules}
-use Rattle.ticket.specs.Laws.Scans.{after_passed, after_refused}
-use Rattle.writer.specs.Laws.Operands.{beyond_both}
+use Rattle.ticket.proofs.Laws.Scans.{after_passed, after_refused}
+use Rattle.writer.proofs.Laws.Operands.{beyond_both}
 use Rattle.writer.proofs.operands.entries.Statement.{statement}
 use Rattle.writer.proofs.operands.entries.Tie as tie
 

@@ -1,6 +1,6 @@
 -- The loop keeps that no entry before k is beyond the bound.
 use Rattle.std.proofs.Common.{◌≡◌, ℕ, ◌-◌, ◌<◌, ◌≤◌, length, get_or, pos, nat_abs, sym, arith, rules}
-use Rattle.writer.specs.Laws.Operands.{size_read, before_more, beyond_none, beyond_within, beyond_at}
+use Rattle.writer.proofs.Laws.Operands.{size_read, before_more, beyond_none, beyond_within, beyond_at}
 use Rattle.writer.proofs.operands.first_beyond.Statement.{statement}
 use Rattle.writer.proofs.operands.first_beyond.Tie as tie
 

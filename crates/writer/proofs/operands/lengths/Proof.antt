@@ -1,6 +1,7 @@
 use Rattle.std.proofs.Common.{◌≡◌, length, sym, ap, ◌∙◌, rules, eq-eqb, ne_eqb}
 use Rattle.ticket.specs.Rules.{part, part_size, of_a, of_b, of_bias}
-use Rattle.ticket.specs.Laws.Limits.{clamped, clamped_same}
+use Rattle.ticket.specs.Laws.Limits.{clamped}
+use Rattle.ticket.proofs.Laws.Limits.{clamped_same}
 use Rattle.writer.specs.Laws.Answers.{lengths_reading}
 use Rattle.writer.proofs.operands.lengths.Statement.{statement}
 use Rattle.writer.proofs.operands.lengths.Tie as tie

@@ -1,5 +1,5 @@
 use Rattle.std.proofs.Common.{◌≡◌, nat_abs, ap, ◌∙◌, arith, to_z-of_z, w32, SFits, rules}
-use Rattle.writer.specs.Laws.Operands.{low_negative, low_positive}
+use Rattle.writer.proofs.Laws.Operands.{low_negative, low_positive}
 use Rattle.writer.proofs.operands.low_word.Statement.{statement}
 use Rattle.writer.proofs.operands.low_word.Tie as tie
 

@@ -1,6 +1,6 @@
 use Rattle.std.proofs.Common.{w32, SFits, rules}
-use Rattle.residue.specs.Laws.Signed.{widened, natural_is, natural_cast}
-use Rattle.writer.specs.Laws.Operands.{size_small, magnitude_negative, magnitude_fits, magnitude_positive}
+use Rattle.residue.proofs.Laws.Signed.{widened, natural_is, natural_cast}
+use Rattle.writer.proofs.Laws.Operands.{size_small, magnitude_negative, magnitude_fits, magnitude_positive}
 use Rattle.writer.proofs.operands.magnitude.Statement.{statement}
 use Rattle.writer.proofs.operands.magnitude.Tie as tie
 

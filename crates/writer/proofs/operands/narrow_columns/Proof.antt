@@ -1,8 +1,9 @@
 -- The loop keeps the columns before this one in the list, and in `start` where it begins.
 use Rattle.std.proofs.Common.{◌≡◌, ◌+◌, ◌-◌, ◌*◌, ◌≤◌, length, take, drop, pos, sym, ap, ◌∙◌, arith}
 use lib.Arith.{digits_div, digits_mod}
-use Rattle.algebra.specs.Laws.Fills.{Filled, filled_none, filled_part, part_replaced, part_long}
-use Rattle.algebra.specs.Laws.Positions.{row_inside}
+use Rattle.algebra.specs.Laws.Fills.{Filled}
+use Rattle.algebra.proofs.Laws.Fills.{filled_none, filled_part, part_replaced, part_long}
+use Rattle.algebra.proofs.Laws.Positions.{row_inside}
 use Rattle.exact.specs.Laws.Matrices.{turned_number}
 use Rattle.writer.proofs.operands.narrow_columns.Statement.{statement}
 use Rattle.writer.proofs.operands.narrow_columns.Tie as tie

@@ -1,9 +1,10 @@
 use Rattle.std.proofs.Common.{◌≡◌, ◌+◌, ◌^◌, ◌<◌, ◌++◌, length, sym, ap, ◌∙◌, arith, length-append, rules}
 use Rattle.ticket.specs.Rules.{of_bias, start}
-use Rattle.ticket.specs.Laws.Limits.{clamped_same, counts}
-use Rattle.ticket.specs.Laws.Layout.{parts_are}
-use Rattle.ticket.specs.Laws.Scans.{after_passed, after_refused}
-use Rattle.writer.specs.Laws.Answers.{Lengths, lengths_reading, in_order, passed_lengths}
+use Rattle.ticket.proofs.Laws.Limits.{clamped_same, counts}
+use Rattle.ticket.proofs.Laws.Layout.{parts_are}
+use Rattle.ticket.proofs.Laws.Scans.{after_passed, after_refused}
+use Rattle.writer.specs.Laws.Answers.{lengths_reading}
+use Rattle.writer.proofs.Laws.Answers.{Lengths, in_order, passed_lengths}
 use Rattle.writer.proofs.operands.read.Statement.{statement}
 use Rattle.writer.proofs.operands.read.Tie as tie
 

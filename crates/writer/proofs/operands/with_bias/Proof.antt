@@ -1,5 +1,5 @@
 use Rattle.std.proofs.Common.{◌<◌, length, ◌∙◌, arith, to_z-of_z, w32, rules}
-use Rattle.writer.specs.Laws.Operands.{no_bias_word}
+use Rattle.writer.proofs.Laws.Operands.{no_bias_word}
 use Rattle.writer.proofs.operands.with_bias.Statement.{statement}
 use Rattle.writer.proofs.operands.with_bias.Tie as tie
 

@@ -1,5 +1,6 @@
 use Rattle.std.proofs.Common.{arith, length-set, rules}
-use Rattle.writer.specs.Laws.Records.{words_of, words_put}
+use Rattle.writer.specs.Laws.Records.{words_of}
+use Rattle.writer.proofs.Laws.Records.{words_put}
 use Rattle.writer.proofs.records.put.Statement.{statement}
 use Rattle.writer.proofs.records.put.Tie as tie
 

@@ -1,9 +1,9 @@
 use Rattle.std.proofs.Common.{◌≡◌, ◌^◌, ◌<◌, ℤ, pos, ◌+ℤ◌, arith, w32, to_z, of_z, rules}
 use Rattle.residue.specs.Rules.{modulus, least_residue}
-use Rattle.residue.specs.Laws.Modulus.{modulus_below, modulus_positive}
-use Rattle.residue.specs.Laws.Residues.{residue_below}
-use Rattle.residue.specs.Laws.Signed.{natural_is, natural_cast}
-use Rattle.writer.specs.Laws.Operands.{entry_fits, residue_negative, residue_fits, residue_positive}
+use Rattle.residue.proofs.Laws.Modulus.{modulus_below, modulus_positive}
+use Rattle.residue.proofs.Laws.Residues.{residue_below}
+use Rattle.residue.proofs.Laws.Signed.{natural_is, natural_cast}
+use Rattle.writer.proofs.Laws.Operands.{entry_fits, residue_negative, residue_fits, residue_positive}
 use Rattle.writer.proofs.records.residue.Statement.{statement}
 use Rattle.writer.proofs.records.residue.Tie as tie
 

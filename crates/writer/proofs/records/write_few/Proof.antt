@@ -1,9 +1,10 @@
 -- The loop keeps the records of the entries before k in the output, and the row and the column of entry k.
 use Rattle.std.proofs.Common.{◌≡◌, ◌+◌, ◌-◌, ◌^◌, ◌<◌, ◌≤◌, length, get_or, ℤ, pos, nat_abs, ap, ◌∙◌, arith, rules}
 use Rattle.residue.specs.Rules.{modulus, least_residue}
-use Rattle.algebra.specs.Laws.Positions.{Position, position_none, position_next, position_row}
-use Rattle.writer.specs.Laws.Lines.{OperandTo, operand_none, operand_record}
-use Rattle.writer.specs.Laws.Operands.{entry_read}
+use Rattle.algebra.proofs.Laws.Positions.{Position, position_none, position_next, position_row}
+use Rattle.writer.specs.Laws.Lines.{OperandTo}
+use Rattle.writer.proofs.Laws.Lines.{operand_none, operand_record}
+use Rattle.writer.proofs.Laws.Operands.{entry_read}
 use Rattle.writer.proofs.records.write_few.Statement.{statement}
 use Rattle.writer.proofs.records.write_few.Tie as tie
 

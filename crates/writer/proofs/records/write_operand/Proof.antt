@@ -1,9 +1,10 @@
 -- The loop keeps the records of the rows before this one in the output, and in `first` where it begins.
 use Rattle.std.proofs.Common.{◌≡◌, ◌+◌, ◌-◌, ◌*◌, ◌<◌, ◌≤◌, length, take, drop, sym, ap, ◌∙◌, arith}
-use Rattle.algebra.specs.Laws.Fills.{part_long}
-use Rattle.algebra.specs.Laws.Positions.{row_inside}
-use Rattle.writer.specs.Laws.Lines.{OperandTo, few_ready, operand_none, row_records}
-use Rattle.writer.specs.Laws.Operands.{small_part}
+use Rattle.algebra.proofs.Laws.Fills.{part_long}
+use Rattle.algebra.proofs.Laws.Positions.{row_inside}
+use Rattle.writer.specs.Laws.Lines.{OperandTo}
+use Rattle.writer.proofs.Laws.Lines.{few_ready, operand_none, row_records}
+use Rattle.writer.proofs.Laws.Operands.{small_part}
 use Rattle.writer.proofs.records.write_operand.Statement.{statement}
 use Rattle.writer.proofs.records.write_operand.Tie as tie
 

@@ -1,8 +1,8 @@
 use Rattle.std.proofs.Common.{◌≡◌, ◌*◌, length, ap, ◌∙◌, rules}
-use Rattle.algebra.specs.Laws.Fills.{part_replaced}
+use Rattle.algebra.proofs.Laws.Fills.{part_replaced}
 use Rattle.ticket.specs.Rules.{record_bytes}
-use Rattle.writer.specs.Laws.Records.{length_words}
-use Rattle.writer.specs.Laws.Writes.{wrote_one, wrote_as}
+use Rattle.writer.proofs.Laws.Records.{length_words}
+use Rattle.writer.proofs.Laws.Writes.{wrote_one, wrote_as}
 use Rattle.writer.proofs.records.write_record.Statement.{statement}
 use Rattle.writer.proofs.records.write_record.Tie as tie
 

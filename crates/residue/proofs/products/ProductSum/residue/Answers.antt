@@ -1,7 +1,7 @@
 use Rattle.std.proofs.Common.{◌∙◌, arith}
 use Rattle.residue.specs.Rules.{modulus, least_residue}
-use Rattle.residue.specs.Laws.Modulus.{modulus_is}
-use Rattle.residue.specs.Laws.Products.{folded}
+use Rattle.residue.proofs.Laws.Modulus.{modulus_is}
+use Rattle.residue.proofs.Laws.Products.{folded}
 use Rattle.residue.proofs.products.ProductSum.residue.Goals as goal
 
 pub returns : goal.returns

@@ -1,5 +1,6 @@
 use Rattle.std.proofs.Common.{refl, rules}
-use Rattle.ticket.specs.Laws.Limits.{clamped, clamped_small}
+use Rattle.ticket.specs.Laws.Limits.{clamped}
+use Rattle.ticket.proofs.Laws.Limits.{clamped_small}
 use Rattle.ticket.proofs.setting.Setting.clamped.Statement.{statement}
 use Rattle.ticket.proofs.setting.Setting.clamped.Tie as tie
 

@@ -1,6 +1,6 @@
 use Rattle.std.proofs.Common.{◌+◌, ◌-◌, ◌*◌, ◌&&◌, ltb, leb, ap, arith, rules}
 use Rattle.residue.specs.Rules.{modulus}
-use Rattle.ticket.specs.Laws.Limits.{FitProducts, fit_products}
+use Rattle.ticket.proofs.Laws.Limits.{FitProducts, fit_products}
 use Rattle.ticket.proofs.setting.Setting.fits.Statement.{statement}
 use Rattle.ticket.proofs.setting.Setting.fits.Tie as tie
 

@@ -1,5 +1,5 @@
 use Rattle.std.proofs.Common.{◌∙◌, arith, rules}
-use Rattle.residue.specs.Laws.Powers.{power_within}
+use Rattle.residue.proofs.Laws.Powers.{power_within}
 use Rattle.ticket.proofs.setting.Setting.half.Statement.{statement}
 use Rattle.ticket.proofs.setting.Setting.half.Tie as tie
 

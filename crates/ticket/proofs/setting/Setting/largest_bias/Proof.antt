@@ -1,5 +1,5 @@
 use Rattle.std.proofs.Common.{sym, arith}
-use Rattle.ticket.specs.Laws.Limits.{bias_flag, no_bias_flag, with_bias_lem, without_bias}
+use Rattle.ticket.proofs.Laws.Limits.{bias_flag, no_bias_flag, with_bias_lem, without_bias}
 use Rattle.ticket.proofs.setting.Setting.largest_bias.Statement.{statement}
 use Rattle.ticket.proofs.setting.Setting.largest_bias.Tie as tie
 

@@ -1,6 +1,6 @@
 use Rattle.std.proofs.Common.{◌*◌, ap, ◌∙◌, arith, rules}
 use Rattle.ticket.specs.Rules.{record_bytes, ticket_length}
-use Rattle.ticket.specs.Laws.Layout.{start_past}
+use Rattle.ticket.proofs.Laws.Layout.{start_past}
 use Rattle.ticket.proofs.setting.Setting.length.Statement.{statement}
 use Rattle.ticket.proofs.setting.Setting.length.Tie as tie
 

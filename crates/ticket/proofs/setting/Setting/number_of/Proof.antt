@@ -1,7 +1,8 @@
 use Rattle.std.proofs.Common.{◌≡◌, true, sym, ◌∙◌, rules}
 use borrow.Author.Tests.{not-true, not-false}
 use Rattle.ticket.specs.Rules.{sizes_within, numbers_within}
-use Rattle.ticket.specs.Laws.Limits.{sizes_of, numbers_of, number_by}
+use Rattle.ticket.specs.Laws.Limits.{number_by}
+use Rattle.ticket.proofs.Laws.Limits.{sizes_of, numbers_of}
 use Rattle.ticket.proofs.setting.Setting.number_of.Statement.{statement}
 use Rattle.ticket.proofs.setting.Setting.number_of.Tie as tie
 

@@ -1,6 +1,7 @@
 use Rattle.std.proofs.Common.{arith, rules}
-use Rattle.ticket.specs.Laws.Limits.{clamped, clamped_small}
-use Rattle.ticket.specs.Laws.Layout.{parts_are}
+use Rattle.ticket.specs.Laws.Limits.{clamped}
+use Rattle.ticket.proofs.Laws.Limits.{clamped_small}
+use Rattle.ticket.proofs.Laws.Layout.{parts_are}
 use Rattle.ticket.proofs.setting.Setting.products.Statement.{statement}
 use Rattle.ticket.proofs.setting.Setting.products.Tie as tie
 

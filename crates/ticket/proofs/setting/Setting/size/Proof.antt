@@ -1,5 +1,5 @@
 use Rattle.std.proofs.Common.{sym, arith, rules}
-use Rattle.ticket.specs.Laws.Layout.{parts_are, size_claims, size_past}
+use Rattle.ticket.proofs.Laws.Layout.{parts_are, size_claims, size_past}
 use Rattle.ticket.proofs.setting.Setting.size.Statement.{statement}
 use Rattle.ticket.proofs.setting.Setting.size.Tie as tie
 

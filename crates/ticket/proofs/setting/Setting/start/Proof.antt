@@ -1,6 +1,7 @@
 use Rattle.std.proofs.Common.{arith, rules}
-use Rattle.ticket.specs.Laws.Limits.{clamped, clamped_small, Clamped}
-use Rattle.ticket.specs.Laws.Layout.{PartsAre, parts_are, start_past}
+use Rattle.ticket.specs.Laws.Limits.{clamped, Clamped}
+use Rattle.ticket.proofs.Laws.Limits.{clamped_small}
+use Rattle.ticket.proofs.Laws.Layout.{PartsAre, parts_are, start_past}
 use Rattle.ticket.proofs.setting.Setting.start.Statement.{statement}
 use Rattle.ticket.proofs.setting.Setting.start.Tie as tie
 

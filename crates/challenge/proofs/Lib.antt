@@ -1,0 +1,2 @@
+-- The rules of the challenge check, which a reader has to believe, and the laws that the proofs of its functions cite.
+pub mod Laws

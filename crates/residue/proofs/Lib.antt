@@ -1,0 +1,3 @@
+-- The rules of residue arithmetic, which a reader has to believe, the laws, which are proved from them, and worked examples.
+pub mod Laws
+mod Examples

@@ -1,0 +1,3 @@
+-- What the answers of the challenge check mean: the laws, and worked examples.
+pub mod Laws
+pub mod Examples
