@@ -14,7 +14,7 @@ use ticket::{Answer, PartNumber, RECORD, Setting};
 
 // What one row comes to: the answer of the ordinary tests, whether the two sides of the row are equal, and the product of B and the vector
 // that its rows are compared by. Where no row is made, none is out of balance.
-#[derive(Drop)]
+#[derive(Clone, Copy)]
 pub struct RowAnswer {
     pub tested: Answer,
     pub balanced: bool,

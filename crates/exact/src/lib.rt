@@ -1,6 +1,7 @@
 // Sums of products of 16-bit numbers, modulo 2^32. A sum that is known to be small is fixed by it, and the loop is one that a
 // compiler turns into vector instructions.
 #![tactic(auto)]
+
 ghost use Rattle.std.specs.Prelude.{◌≡◌, ◌+◌, ◌^◌, ◌≤◌, min, length};
 ghost use Rattle.residue.specs.Rules.{least_residue};
 ghost use Rattle.exact.specs.Rules.{dot_product};

@@ -10,7 +10,7 @@ use ticket::Setting;
 
 // A number of the published table (0: the figures are given), and the figures, which are 0 beside any other number.
 #[repr(C)]
-#[derive(Drop)]
+#[derive(Clone, Copy)]
 pub struct Quote {
     pub number: u32,
     // the smallest that fits

@@ -11,11 +11,11 @@ mod products;
 pub use products::ProductSum;
 
 // A residue, by a number that is equal to it modulo p. The calls below return the least one, from 0 to p - 1.
-#[derive(Drop)]
+#[derive(Clone, Copy)]
 pub struct Residue(pub u32);
 
 // A signed entry, the integer that a residue stands for. The calls below return one from -(p - 1)/2 to (p - 1)/2.
-#[derive(Drop)]
+#[derive(Clone, Copy)]
 pub struct Entry(pub i32);
 
 impl Residue {

@@ -10,7 +10,7 @@ use crate::Residue;
 const SPLIT: u64 = 2_147_483_648;
 
 // The number low + 2^31 · high.
-#[derive(Drop)]
+#[derive(Clone, Copy)]
 pub struct ProductSum {
     pub low: u64,
     pub high: u64,

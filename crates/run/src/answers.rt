@@ -9,7 +9,7 @@ use challenge::RowAnswer;
 use ticket::{Answer, PlainSetting};
 
 // What is said of a run.
-#[derive(Drop)]
+#[derive(Clone, Copy)]
 struct Told {
     mark: u32,
     answer: Answer,

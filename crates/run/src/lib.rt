@@ -16,7 +16,7 @@ const INNER: usize = Setting::MOST_INNER as usize;
 
 // The state of a run.
 #[repr(C)]
-#[derive(Drop)]
+#[derive(Clone, Copy)]
 pub struct Run {
     pub setting: PlainSetting,
     // the vectors one after another
@@ -34,7 +34,7 @@ pub struct Run {
 
 // What a call says of a run: the state that is handed back, a mark, and an answer.
 #[repr(C)]
-#[derive(Drop)]
+#[derive(Clone, Copy)]
 pub struct RunAnswer {
     pub run: Run,
     pub mark: u32,

@@ -16,7 +16,7 @@ pub use setting::{PartNumber, Setting};
 // What a call says: a number of the published table (0: nothing is wrong), its place, and for a caught ticket, one that Freivalds'
 // check rejects, the row. The products made are counted where a ticket is accepted, caught or written, and at an untrue claim.
 #[repr(C)]
-#[derive(Drop)]
+#[derive(Clone, Copy)]
 pub struct Answer {
     pub number: u32,
     pub place: u32,

@@ -6,7 +6,7 @@ use crate::Setting;
 
 // The public parameters of a layer, handed in by the buyer. A is rows by inner, B is inner by columns.
 #[repr(C)]
-#[derive(Drop)]
+#[derive(Clone, Copy)]
 pub struct PlainSetting {
     pub rows: u32,
     pub inner: u32,
@@ -25,7 +25,7 @@ pub struct PlainSetting {
 
 // The same of a layer with a bias.
 #[repr(C)]
-#[derive(Drop)]
+#[derive(Clone, Copy)]
 pub struct BiasSetting {
     pub setting: PlainSetting,
     // the largest absolute value of a bias entry

@@ -18,7 +18,7 @@ const SHORT_ROW: u8 = 2;
 
 // What the records of a part have to be. A value is in range where, shift added modulo p, it is below limit; outside is the
 // number of the answer for one that is not.
-#[derive(Drop)]
+#[derive(Clone, Copy)]
 struct Form {
     kind: u8,
     rows: u8,

@@ -11,7 +11,7 @@ use crate::parts::RECORD;
 use residue::Residue;
 
 // The public parameters of a layer, with a bias or without.
-#[derive(Drop)]
+#[derive(Clone, Copy)]
 pub struct Setting {
     pub rows: u32,
     pub inner: u32,
@@ -27,7 +27,7 @@ pub struct Setting {
 }
 
 // Which part of a ticket, by its number in the ticket's order.
-#[derive(Drop)]
+#[derive(Clone, Copy)]
 pub struct PartNumber(pub u32);
 
 impl PartNumber {

@@ -24,7 +24,7 @@ const SMALL: usize = 64;
 const TINY: usize = 8;
 
 // A claim's two values.
-#[derive(Drop)]
+#[derive(Clone, Copy)]
 struct Claim {
     quotient: Residue,
     remainder: Residue,

@@ -42,6 +42,9 @@ unfolding without
 without_word P n zero (x ∷ xs) l w = w.1
 without_word P zero (suc j) (x ∷ xs) l w = absurd (omega arith)
 without_word P (suc n) (suc j) (x ∷ xs) l w = (w.0, without_word P n j xs (omega arith) w.1)
+without_word P n zero [] l w = elim w [ ]
+without_word P zero (suc j) [] l w = elim l [ ]
+without_word P (suc n) (suc j) [] l w = elim w [ ]
 
 pub without_apart : (j : ℕ) (x y : List ℕ) → length x ≡ length y → without j x ≡ without j y
     → (k : ℕ) → (k ≡ j → ⊥) → get_or x k 0 ≡ get_or y k 0

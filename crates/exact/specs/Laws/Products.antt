@@ -9,7 +9,7 @@ use Rattle.algebra.specs.Rules.{int_sum}
 use Rattle.exact.specs.Rules.{product_sum, dot_product}
 
 -- product k of the two lists
-abbrev term : List ℤ → List ℤ → ℕ → ℤ
+abbrev pub term : List ℤ → List ℤ → ℕ → ℤ
 term x y k = slice_index_or x k (pos 0) *ℤ slice_index_or y k (pos 0)
 
 pub record Summed (x y : List ℤ) (before start n sum : ℕ) : Type 0 where

@@ -1,0 +1,9 @@
+use Rattle.std.proofs.Common.{◌≡◌, ◌+◌, ◌-◌, ◌*◌, ◌≤◌, refl, add-zero, arith, to_z-of_z, w16}
+use Rattle.algebra.proofs.Laws.Positions.{row_inside}
+use Rattle.exact.specs.Laws.Matrices.{TurnedFurther}
+use Rattle.exact.proofs.Laws.Matrices.{turned_further}
+use Rattle.exact.proofs.matrices.turn_row.Goals as goal
+
+pub loop-column-preserved : goal.loop-column-preserved
+loop-column-preserved c = let inv = c.loop-column.invariant in
+    (omega arith, omega arith, turned_further (search) (search) (search) inv.1 inv.2 (to_z-of_z {w = w16} (record { sfits = c.list-1.given })))

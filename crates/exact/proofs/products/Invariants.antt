@@ -1,0 +1,12 @@
+-- The loop keeps the sum of the first k products, of the count that there are.
+use Rattle.std.proofs.Common.{◌≡◌, ◌-◌, ◌≤◌, ◌∙◌, arith, rules}
+use Rattle.residue.proofs.Laws.Signed.{widened}
+use Rattle.exact.specs.Laws.Products.{Summed}
+use Rattle.exact.proofs.Laws.Products.{product_fits, product_residue, summed_none, summed_more}
+use Rattle.exact.proofs.products.Given as goal
+
+abbrev pub invariant-loop-k : goal.invariant-loop-k
+invariant-loop-k l = (l.k ≤ l.count) × Summed l.x l.y l.before l.start l.k l.sum
+
+abbrev pub decreases-loop-k : goal.decreases-loop-k
+decreases-loop-k l = l.count - l.k
