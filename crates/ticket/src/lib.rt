@@ -1,6 +1,7 @@
 // Reading a ticket: the certificate of one layer's matrix product, with both operands and the quotients and remainders that the
 // reader claims. Every call takes every value of its parameters; the rules that the contracts cite are in specs/Rules.antt.
 #![tactic(auto)]
+
 mod decode;
 mod parts;
 mod published;

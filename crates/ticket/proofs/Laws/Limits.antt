@@ -135,6 +135,7 @@ limit_in_table G numbers (later a (later b (here e))) =
     (λ none. absurd (true≢false (sym (le-leb (bias_bound G) most_bias_bound (omega (arith, (without_bias G none).0))) ∙ e)))
     (true_or_false (has_bias G))
 limit_in_table G numbers (later a (later b (later c (here e)))) = rounding_row
+limit_in_table G numbers (later a (later b (later c (later _ x20)))) = elim x20 [ ]
 
 pub data SettingRow (G : Setting) : ℕ → Type 0 where
   limit_row : {c : ℕ} → LimitRow G c → SettingRow G c

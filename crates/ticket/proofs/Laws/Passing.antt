@@ -20,7 +20,8 @@ use Rattle.ticket.proofs.Laws.All.{all_at, all_cong, all_split}
 use Rattle.ticket.proofs.Laws.Limits.{both}
 use Rattle.ticket.specs.Laws.Forms.{range_test, tested_at, tested, part_answer, Ranged}
 use Rattle.ticket.proofs.Laws.Scans.{refusal_none}
-use Rattle.ticket.proofs.Laws.Tests.{none, one, holding_number, same_test}
+use Rattle.ticket.proofs.Laws.Tests.{holding_number, same_test}
+use Rattle.ticket.specs.Laws.Tests.{none, one}
 use Rattle.ticket.specs.declared.records.Form.{Form}
 use Rattle.ticket.specs.Laws.Passing.{passing_at, passing, row_passing}
 

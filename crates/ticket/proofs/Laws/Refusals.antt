@@ -140,6 +140,7 @@ record_in_table : (G : Setting) (t : List ℕ) (k w row column : ℕ) → k < re
 record_in_table G t k w row column l from below (here e) = record_row 5 k (omega arith) (omega arith) l
 record_in_table G t k w row column l from below (later a (here e)) = record_row 6 k (omega arith) (omega arith) l
 record_in_table G t k w row column l from below (later a (later b (here e))) = range_row w k from below
+record_in_table G t k w row column l from below {c = c} (later a (later b (later _ x16))) = elim x16 [ ]
 
 pub refused_in_table : {G : Setting} {t : List ℕ} {c k : ℕ} → Refused G t c k → ReadingRow G (refusal c k)
 refused_in_table {G} (by_setting f) = by_setting_row (setting_in_table G f)

@@ -19,7 +19,7 @@ use Rattle.std.proofs.Common.{arith, inl, inr, ⊎_elim, sym, ◌∙◌, le-leb,
 use Rattle.std.proofs.lemmas.Bool.{lt-leb}
 use Rattle.ticket.specs.Rules.{Test, first_failed}
 use Rattle.ticket.proofs.Laws.First.{true_or_false}
-use Rattle.ticket.specs.Laws.Tests.{AllHold}
+use Rattle.ticket.specs.Laws.Tests.{AllHold, none, one}
 
 pub data Failed : List Test → ℕ → Type 0 where
   here : {T : Test} {rest : List Test} → T.holds ≡ false → Failed (T ∷ rest) T.number
@@ -59,6 +59,7 @@ module _ (T : Test) where
   failed_split (S ∷ rest) (here e) = inl (here e)
   failed_split (S ∷ rest) (later h f) =
       ⊎_elim (λ g. inl (later h g)) (λ g. inr (one h g.0, g.1, g.2)) (failed_split rest f)
+  failed_split [] {c = c} (later h f) = elim f [ ]
 
 pub hold_or_failed : (l : List Test) → AllHold l ⊎ ((c : ℕ) × Failed l c)
 hold_or_failed [] = inl none
@@ -82,6 +83,7 @@ pub failed_numbered : {c : ℕ} (l : List Test) → Numbered l → Failed l c �
 unfolding Numbered
 failed_numbered (T ∷ rest) numbered (here e) = numbered.0
 failed_numbered (T ∷ rest) numbered (later h f) = failed_numbered rest numbered.1 f
+failed_numbered {c = c} [] numbered x'' = elim x'' [ ]
 
 pub tests_hold : (l : List Test) → Numbered l → first_failed l ≡ 0 → AllHold l
 tests_hold l numbered e =

@@ -13,8 +13,8 @@ use Rattle.ticket.specs.Rules.{after, refusal, most_rows, most_inner, most_colum
 use Rattle.ticket.proofs.Laws.Answers.{after_zero}
 use Rattle.ticket.specs.Laws.Limits.{renumbered}
 use Rattle.ticket.proofs.Laws.Limits.{setting_holds, sizes_of}
-use Rattle.ticket.specs.Laws.Tests.{AllHold}
-use Rattle.ticket.proofs.Laws.Tests.{one, holding_number}
+use Rattle.ticket.specs.Laws.Tests.{AllHold, one}
+use Rattle.ticket.proofs.Laws.Tests.{holding_number}
 use Rattle.ticket.specs.Laws.Vectors.{vectored}
 
 pub record Unread (G : Setting) (s : ℕ) : Type 0 where

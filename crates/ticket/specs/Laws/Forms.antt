@@ -23,7 +23,7 @@ entries_form kind rows columns bound outside =
 abbrev pub range_test : Form → ℕ → Bool
 range_test F value = nat_lt ((value + F.shift) % modulus) F.limit
 
-abbrev tests_at : List ℕ → Form → ℕ → ℕ → ℕ → List Test
+abbrev pub tests_at : List ℕ → Form → ℕ → ℕ → ℕ → List Test
 tests_at bytes F i row column =
     test (formed bytes i F.kind row column) 5
     ∷ test (nat_lt (value_at bytes i) modulus) 6

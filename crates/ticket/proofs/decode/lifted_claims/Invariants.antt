@@ -1,0 +1,14 @@
+-- The loop keeps what the claims before c put for their sums in the list, lifted.
+use Rattle.std.proofs.Common.{◌-◌, ◌≤◌, ◌∙◌, arith, rules}
+use Rattle.algebra.specs.Laws.Fills.{Filled}
+use Rattle.algebra.proofs.Laws.Fills.{filled_none, filled_more}
+use Rattle.ticket.specs.Laws.Decodes.{lifted_at}
+use Rattle.ticket.proofs.Laws.Decodes.{filled_to}
+use Rattle.ticket.proofs.decode.lifted_claims.Given as goal
+
+abbrev pub invariant-loop-c : goal.invariant-loop-c
+invariant-loop-c l =
+    (l.c ≤ l.count) × Filled 0 l.initial.list l.c (lifted_at l.quotients l.remainders l.half.0 l.scale) l.list
+
+abbrev pub decreases-loop-c : goal.decreases-loop-c
+decreases-loop-c l = l.count - l.c
