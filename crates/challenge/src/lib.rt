@@ -1,6 +1,7 @@
 // The challenge check: Freivalds' check on ticket bytes. The vectors are the buyer's; their products with B are made here and
 // never taken from the ticket. Its tests and one row of it can be had by themselves.
 #![tactic(auto)]
+
 ghost use Rattle.std.specs.Prelude.{◌≡◌};
 ghost use Rattle.ticket.specs.Rules.{after, refusal, setting_number};
 ghost use Rattle.challenge.specs.Rules.{challenge_check, list_reading, row_check, testing};

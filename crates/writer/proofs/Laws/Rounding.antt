@@ -7,7 +7,7 @@ use Rattle.std.specs.Prelude.{◌≡◌, ℕ, List, ℤ, pos, ◌-ℤ◌, ◌*�
 use Rattle.std.proofs.Math.Path.{ap}
 use Rattle.algebra.specs.Rules.{floor_division}
 use Rattle.ticket.specs.declared.setting.Setting.{Setting}
-use Rattle.ticket.specs.Laws.Rounding as ticket
+use Rattle.ticket.proofs.Laws.Rounding as ticket
 use Rattle.ticket.proofs.Laws.Rounding.{unrounded_dividend, rounded}
 use Rattle.writer.specs.Rules.{operands_reading, written, sum_for, quotient_of, remainder_of}
 

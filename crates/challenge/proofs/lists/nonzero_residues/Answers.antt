@@ -1,0 +1,23 @@
+use Prim.Native.Nat.{◌-◌, ◌≤◌}
+use native.Mathlib.Omega.{arith}
+use mathlib.Core.Path.{◌≡◌}
+use lib.ListN.{length}
+use borrow.Author.Rules.{rules}
+use Rattle.residue.proofs.Laws.Modulus.{modulus_positive}
+use Rattle.ticket.specs.Laws.All.{all}
+use Rattle.ticket.proofs.Laws.All.{all_none, all_next}
+use Rattle.challenge.specs.Laws.Lists.{nonzero_residue}
+use Rattle.challenge.proofs.lists.nonzero_residues.Goals as goal
+
+pub overflow_sub-most : goal.overflow_sub-most
+overflow_sub-most c = omega (arith, modulus_positive, c.modulus-most.ensures)
+
+pub loop-k-init : goal.loop-k-init
+loop-k-init c = (omega arith, all_none _)
+
+pub loop-k-preserved : goal.loop-k-preserved
+loop-k-preserved c =     (omega arith, all_next c.loop-k.k _ c.loop-k.invariant.1 (rw c.modulus-most.ensures))
+
+pub returns : goal.returns
+returns c = let ended : c.loop-k.k ≡ length c.args.list.now = omega arith in
+    rw ended at c.loop-k.invariant.1

@@ -1,0 +1,14 @@
+-- The loop keeps: the sum is the offset and the first i products.
+use Prim.Native.Nat.{◌-◌, ◌*◌, ◌≤◌}
+use native.Mathlib.Omega.{arith}
+use borrow.Author.Rules.{rules}
+use lib.ListN.{length, get_or}
+use Rattle.challenge.specs.Laws.Products.{dot_with}
+use Rattle.challenge.proofs.Laws.Products.{Reached, reached_none, reached_all, reduced, narrow_product, narrow_total, narrow_more}
+use Rattle.challenge.proofs.products.dot.Given as goal
+
+abbrev pub invariant-loop-i : goal.invariant-loop-i
+invariant-loop-i l = (l.i ≤ length l.vector) × Reached l.offset (λ k. get_or l.list k 0 * get_or l.vector k 0) l.i l.sum
+
+abbrev pub decreases-loop-i : goal.decreases-loop-i
+decreases-loop-i l = length l.vector - l.i

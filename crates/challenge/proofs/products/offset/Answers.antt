@@ -1,0 +1,21 @@
+use Prim.Native.Nat.{◌-◌, ◌≤◌}
+use native.Mathlib.Omega.{arith}
+use borrow.Author.Rules.{rules}
+use lib.ListN.{length, get_or}
+use Rattle.challenge.proofs.Laws.Products.{Reached, reached_none, reached_more, total_fits, offset_made, offset_fits}
+use Rattle.challenge.proofs.products.offset.Goals as goal
+
+pub loop-j-init : goal.loop-j-init
+loop-j-init c = (omega arith, reached_none 0 _)
+
+pub overflow_add-sum : goal.overflow_add-sum
+overflow_add-sum c = record { fits = search total_fits }
+
+pub loop-j-preserved : goal.loop-j-preserved
+loop-j-preserved c = (omega arith, search reached_more)
+
+pub overflow_mul-result : goal.overflow_mul-result
+overflow_mul-result c = record { fits = search offset_fits }
+
+pub returns : goal.returns
+returns c = search offset_made
