@@ -1,5 +1,6 @@
 // The full check: each exact sum is made again and compared with its claim.
 #![tactic(auto)]
+
 ghost use Rattle.std.specs.Prelude.{◌≡◌};
 ghost use Rattle.full.specs.Rules.{full_check};
 

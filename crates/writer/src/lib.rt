@@ -1,5 +1,6 @@
 // The ticket writer: the one ticket whose claims are true, for two operands and a bias, which is empty where the setting has none.
 #![tactic(auto)]
+
 ghost use Rattle.std.specs.Prelude.{◌≡◌, ◌≤◌, ◌++◌, length, drop};
 ghost use Rattle.ticket.specs.Rules.{half_range, ticket_length};
 ghost use Rattle.ticket.specs.Laws.Limits.{clamped};

@@ -1,0 +1,12 @@
+-- The loop keeps that the first j sums are what is claimed for them.
+use Rattle.std.proofs.Common.{◌≡◌, ℕ, ◌-◌, ◌<◌, ◌≤◌, true, length, sym, ◌∙◌, arith, rules, below_more, eq-eqb, ne_eqb}
+use Rattle.ticket.proofs.Laws.All.{all_at}
+use Rattle.ticket.proofs.Laws.First.{first_none, first_is}
+use Rattle.full.specs.Laws.Sums.{claimed_for}
+use Rattle.full.proofs.claims.agreeing.Given as goal
+
+abbrev pub invariant-loop-j : goal.invariant-loop-j
+invariant-loop-j l = (l.j ≤ length l.sums) × ((i : ℕ) → i < l.j → claimed_for l.sums l.claims l.lift i ≡ true)
+
+abbrev pub decreases-loop-j : goal.decreases-loop-j
+decreases-loop-j l = length l.sums - l.j

@@ -1,0 +1,15 @@
+use Rattle.std.proofs.Common.{◌≡◌, ◌-◌, ◌≤◌, length, arith, rules}
+use Rattle.ticket.specs.Laws.All.{all}
+use Rattle.ticket.proofs.Laws.All.{all_none, all_next}
+use Rattle.full.specs.Laws.Sums.{claimed_for}
+use Rattle.full.proofs.claims.all_agree.Goals as goal
+
+pub loop-k-init : goal.loop-k-init
+loop-k-init c = (omega arith, all_none _)
+
+pub loop-k-preserved : goal.loop-k-preserved
+loop-k-preserved c =     (omega arith, all_next c.loop-k.k _ c.loop-k.invariant.1 (rw c.wrapping_add_u32.ensures.value))
+
+pub returns : goal.returns
+returns c = let ended : c.loop-k.k ≡ length c.args.sums.now = omega arith in
+    rw ended at c.loop-k.invariant.1

@@ -1,0 +1,17 @@
+use Rattle.std.proofs.Common.{◌≡◌, ◌-◌, ◌≤◌, leb, length, ap, ◌∙◌, arith, rules}
+use Rattle.ticket.specs.Laws.All.{all}
+use Rattle.ticket.proofs.Laws.All.{all_none, all_next}
+use Rattle.writer.specs.Laws.Operands.{within_at}
+use Rattle.writer.proofs.Laws.Operands.{size_read}
+use Rattle.writer.proofs.operands.all_within.Goals as goal
+
+pub loop-k-init : goal.loop-k-init
+loop-k-init c = (omega arith, all_none _)
+
+pub loop-k-preserved : goal.loop-k-preserved
+loop-k-preserved c =
+    let size = size_read c.args.operand.now c.loop-k.k c.magnitude-arg-1.given c.magnitude.ensures in
+    (omega arith, all_next c.loop-k.k _ c.loop-k.invariant.1 (ap (λ n. leb n c.args.bound) size))
+
+pub returns : goal.returns
+returns c = c.loop-k.invariant.1 ∙ ap (λ n. all n (within_at c.args.bound c.args.operand.now)) (omega arith)

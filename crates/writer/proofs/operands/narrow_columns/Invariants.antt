@@ -1,0 +1,15 @@
+-- The loop keeps the columns before this one in the list, and in `start` where it begins.
+use Rattle.std.proofs.Common.{◌≡◌, ◌+◌, ◌-◌, ◌*◌, ◌≤◌, length, take, drop, pos, sym, ap, ◌∙◌, arith}
+use lib.Arith.{digits_div, digits_mod}
+use Rattle.algebra.specs.Laws.Fills.{Filled}
+use Rattle.algebra.proofs.Laws.Fills.{filled_none, filled_part, part_replaced, part_long}
+use Rattle.algebra.proofs.Laws.Positions.{row_inside}
+use Rattle.exact.specs.Laws.Matrices.{turned_number}
+use Rattle.writer.proofs.operands.narrow_columns.Given as goal
+
+abbrev pub invariant-loop-column : goal.invariant-loop-column
+invariant-loop-column l =
+    (l.column ≤ l.width) × (l.start ≡ l.column * l.height) × Filled (pos 0) l.initial.list l.start (turned_number l.matrix l.height l.width) l.list
+
+abbrev pub decreases-loop-column : goal.decreases-loop-column
+decreases-loop-column l = l.width - l.column
