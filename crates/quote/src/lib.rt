@@ -1,6 +1,7 @@
 // The quote: what the tickets of a layer need, before there are operands. It is made for whoever sells a layer: the smallest width that
 // fits, the bytes of a ticket, and the products that the two checks make where they accept.
 #![tactic(auto)]
+
 ghost use Rattle.std.specs.Prelude.{◌≡◌};
 ghost use Rattle.challenge.specs.Rules.{challenge_products};
 ghost use Rattle.ticket.specs.Laws.Limits.{Within};

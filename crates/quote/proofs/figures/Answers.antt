@@ -1,0 +1,19 @@
+use native.Mathlib.Omega.{arith}
+use borrow.Author.Rules.{rules}
+use mathlib.Core.Path.{◌≡◌, ap}
+use Rattle.ticket.specs.Rules.{ticket_length}
+use Rattle.ticket.proofs.Laws.Layout.{length_most}
+use Rattle.ticket.specs.Laws.Limits.{clamped}
+use Rattle.ticket.proofs.Laws.Limits.{clamped_same, counts}
+use Rattle.quote.proofs.figures.Goals as goal
+
+pub overflow_cast-length : goal.overflow_cast-length
+overflow_cast-length c =
+    let same : clamped c.args.setting ≡ c.args.setting = clamped_same c.requires.sizes c.requires.numbers in
+    let few = counts c.requires.sizes in
+    omega (arith, c.length-length.ensures, ap ticket_length (same), length_most few, few)
+
+pub returns : goal.returns
+returns c =
+    let same : clamped c.args.setting ≡ c.args.setting = clamped_same c.requires.sizes c.requires.numbers in
+    rw (c.length-length.ensures, c.products.ensures, c.challenge_products.ensures, same)
