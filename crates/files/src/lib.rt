@@ -1,6 +1,7 @@
 // What the program's three files stand for, the check of them, and the line that the program writes. Every call takes every value
 // of its parameters; the rules that the contracts cite are in specs/Rules.antt.
 #![tactic(auto)]
+
 ghost use Rattle.std.specs.Prelude.{◌≡◌};
 ghost use Rattle.files.specs.Rules.{file_check};
 

@@ -1,6 +1,7 @@
 // A challenge check that proceeds one row at a step, its state handed in and handed back: vectors may be added while it is under way. Every state
 // is taken, whoever made it.
 #![tactic(auto)]
+
 ghost use Rattle.std.specs.Prelude.{◌≡◌};
 ghost use Rattle.run.specs.Rules.{adding, beginning, stepping};
 

@@ -192,9 +192,9 @@ unfolding added steps last_answer acting
 reached {y = y} {k} reach [] = let none : k + 0 ≡ k = omega arith in rw (append-nil y, none) reach
 reached {t} {y = y} {k} {a} reach (step ∷ rest) =
     let more : k + (1 + steps rest) ≡ 1 + k + steps rest = omega arith in
-    rw more (reached (step_reached reach) rest)
-reached {t} {y = y} {a = a} reach (add v ∷ rest) =
-    rw (← append_assoc y (joining reach v) (added t (adding a.run v) rest)) (reached (add_reached reach v) rest)
+    rw more (reached {k = 1 + k} (step_reached reach) rest)
+reached {t} {y = y} {k} {a = a} reach (add v ∷ rest) =
+    rw (← append_assoc y (joining reach v) (added t (adding a.run v) rest)) (reached {y = y ++ joining reach v} (add_reached reach v) rest)
 
 -- a state of zeros is refused by every call
 zeros_refused : (t : List ℕ) (α : Action) → (b : Answer) × (acting t zeros α ≡ marked zeros refused b)

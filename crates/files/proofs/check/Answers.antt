@@ -1,0 +1,13 @@
+use borrow.Author.Rules.{rules}
+use Rattle.files.proofs.Laws.Checks.{setting_file_refused, list_checked}
+use Rattle.files.proofs.Laws.Numbers.{read_long}
+use Rattle.files.proofs.check.Goals as goal
+
+pub returns-then-setting-ne-SETTING_BYTES : goal.returns-then-setting-ne-SETTING_BYTES
+returns-then-setting-ne-SETTING_BYTES c = search setting_file_refused
+
+pub slice_bounds-check-end : goal.slice_bounds-check-end
+slice_bounds-check-end c = (read_long _ c.numbers-list.ensures c.count-count.ensures.within).1
+
+pub returns : goal.returns
+returns c = search list_checked

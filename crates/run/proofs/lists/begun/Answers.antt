@@ -1,0 +1,7 @@
+use native.Mathlib.Omega.{arith}
+use borrow.Author.Rules.{rules}
+use Rattle.run.proofs.Laws.Additions.{begun_made}
+use Rattle.run.proofs.lists.begun.Goals as goal
+
+pub returns : goal.returns
+returns c = begun_made _ c.args.list.now c.requires c.copy.ensures
