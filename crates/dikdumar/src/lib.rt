@@ -1,6 +1,7 @@
 // The calls for programs in C, C++ and Rust, under the names of include/dikdumar.h. Each has the contract of the call that it hands
 // its arguments to, for a setting without a bias or with one.
 #![tactic(auto)]
+
 ghost use Rattle.std.specs.Prelude.{◌≡◌, [], length};
 ghost use Rattle.ticket.specs.Rules.{numbered, plain, with_bias};
 ghost use Rattle.challenge.specs.Rules.{challenge_check};

@@ -1,6 +1,7 @@
 // The residue calls for programs in C, C++ and Rust, under the names of include/dikdumar_residue.h. Each has the contract of the
 // call that it hands its arguments to.
 #![tactic(auto)]
+
 ghost use Rattle.std.specs.Prelude.{◌≡◌, pos, ◌+ℤ◌, ◌-ℤ◌, ◌*ℤ◌};
 ghost use Rattle.residue.specs.Rules.{modulus, least_residue, signed_entry, power_of_two};
 

@@ -32,7 +32,6 @@ use Rattle.ticket.proofs.Laws.First.{true_or_false}
 use Rattle.ticket.specs.Laws.Passes.{Passed}
 use Rattle.ticket.proofs.Laws.Passes.{passed_of, passes_of, record_formed}
 use Rattle.ticket.specs.Laws.Tests.{none, one}
-
 use Rattle.challenge.specs.Rules.{Accepted, WellFormed}
 use Rattle.soundness.proofs.Laws.Demands.{accepted_exactly_well_formed}
 use Rattle.full.specs.Rules.{full_check, full_accepted, FullAccepted}
