@@ -1,0 +1,5 @@
+use Rattle.files.proofs.Laws.Starts.{read_decides}
+use Rattle.ticket_check.proofs.check.Goals as goal
+
+pub returns : goal.returns
+returns c = read_decides c.requires c.check.ensures
