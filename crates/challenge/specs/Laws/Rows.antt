@@ -11,7 +11,7 @@
 --   VectorRowsReady G a w d x u s q   the rows can be worked through after q products, s being the lift
 --   SidesReady a w d x z u i n q   so can row i
 use Rattle.std.specs.Prelude.{ℕ, ◌+◌, ◌*◌, ◌≤◌, ◌<◌, ◌^◌, ◌≡◌, refl, Bool, List, eqb, length, get_or, take}
-use Rattle.std.proofs.Common.{arith}
+use Rattle.std.proofs.Math.Nat.{suc-ne-zero}
 use Rattle.residue.specs.Rules.{modulus}
 use Rattle.algebra.specs.Laws.Fills.{line_at}
 use Rattle.ticket.specs.declared.setting.Setting.{Setting}
@@ -47,7 +47,7 @@ row_steps G a w d x u τ products =
       holds = row_agrees G a w d x u;
       failed = λ i. answer 12 τ i (products + (i + 1) * row_cost G x u);
       so_far = λ i. answer 0 0 0 (products + i * row_cost G x u);
-      other = λ i e. omega arith;
+      other = λ i. suc-ne-zero 11;
       passed = λ i. refl;
     }
 

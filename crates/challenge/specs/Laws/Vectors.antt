@@ -6,7 +6,7 @@
 --   VectorThere G t x τ      vector τ is one of the list
 --   VectorReady G t x τ q    it can be worked through after q products
 use Rattle.std.specs.Prelude.{ℕ, ◌+◌, ◌*◌, ◌%◌, ◌≤◌, ◌<◌, ◌^◌, ◌≡◌, refl, List, eqb, length, get_or}
-use native.Mathlib.Omega.{arith}
+use Rattle.std.proofs.Math.Nat.{suc-ne-zero}
 use Rattle.residue.specs.Rules.{modulus, least_residue}
 use Rattle.algebra.specs.Laws.Fills.{Filled, line_at}
 use Rattle.ticket.specs.declared.setting.Setting.{Setting}
@@ -33,7 +33,7 @@ vector_steps G t x =
       holds = λ τ. eqb (first_row G t x τ) G.rows;
       failed = λ τ. caught G τ (first_row G t x τ);
       so_far = λ τ. answer 0 0 0 (τ * vector_products G);
-      other = λ τ e. omega arith;
+      other = λ τ. suc-ne-zero 11;
       passed = λ τ. refl;
     }
 

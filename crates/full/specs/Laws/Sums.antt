@@ -7,7 +7,7 @@
 --   SumRowReady G A B y n l i a   so it is for row i, a is the answer of the rows before, and no number of the row is large
 --   RowCompared G A B y i a   a is the answer of the rows up to row i where they agree, else that of all rows
 use Rattle.std.specs.Prelude.{◌≡◌, ℕ, ◌+◌, ◌*◌, ◌/◌, ◌%◌, ◌^◌, ◌<◌, ◌≤◌, Bool, List, length, ℤ, ◌==◌, slice_index, slice_index_or, refl}
-use Rattle.std.proofs.Common.{arith}
+use Rattle.std.proofs.Math.Nat.{suc-ne-zero}
 use Rattle.algebra.specs.Laws.Fills.{line_at}
 use Rattle.exact.specs.Rules.{dot_product}
 use Rattle.exact.specs.Laws.Matrices.{RowSums}
@@ -30,7 +30,7 @@ sum_steps G A B claims =
       holds = λ c. ((line_sum A B G.inner (c / G.columns) (c % G.columns) + lift G) % 2 ^ 32 == slice_index claims c);
       failed = λ c. answer 16 c 0 (G.inner * (c + 1));
       so_far = λ c. answer 0 0 0 (G.inner * c);
-      other = λ c e. omega arith;
+      other = λ c. suc-ne-zero 15;
       passed = λ c. refl;
     }
 
