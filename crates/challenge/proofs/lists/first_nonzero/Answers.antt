@@ -9,12 +9,6 @@ use lib.ListN.{length, get_or}
 use Rattle.ticket.proofs.Laws.First.{first_is, first_none}
 use Rattle.challenge.proofs.lists.first_nonzero.Goals as goal
 
-pub loop-j-init : goal.loop-j-init
-loop-j-init c = (omega arith, λ i l. absurd (omega arith))
-
-pub loop-j-preserved : goal.loop-j-preserved
-loop-j-preserved c = (omega arith, below_more _ _ c.loop-j.invariant.1 (eq-eqb _ _ c.if-vector-j-eq0.true))
-
 pub returns-else-vector-j-eq0 : goal.returns-else-vector-j-eq0
 returns-else-vector-j-eq0 c = sym (first_is _ c.loop-j.j _ (omega arith) c.loop-j.invariant.1 (ne_eqb _ _ c.if-vector-j-eq0.false))
 

@@ -17,7 +17,3 @@ loop-k-init c = (omega arith, all_none _)
 
 pub loop-k-preserved : goal.loop-k-preserved
 loop-k-preserved c =     (omega arith, all_next c.loop-k.k _ c.loop-k.invariant.1 (rw c.modulus-most.ensures))
-
-pub returns : goal.returns
-returns c = let ended : c.loop-k.k ≡ length c.args.list.now = omega arith in
-    rw ended at c.loop-k.invariant.1

@@ -7,14 +7,8 @@ use Rattle.residue.specs.Rules.{modulus}
 use Rattle.challenge.proofs.Laws.Lists.{numbers_refused, numbers_passed}
 use Rattle.challenge.proofs.lists.read_numbers.Goals as goal
 
-pub loop-k-init : goal.loop-k-init
-loop-k-init c = (omega arith, λ i l. absurd (omega arith))
-
 pub returns-then-modulus-list : goal.returns-then-modulus-list
 returns-then-modulus-list c = numbers_refused _ _ (search rules) c.loop-k.invariant.1 (omega arith)
-
-pub loop-k-preserved : goal.loop-k-preserved
-loop-k-preserved c = (omega arith, below_more _ _ c.loop-k.invariant.1 (omega arith))
 
 pub returns : goal.returns
 returns c = numbers_passed _ _ (λ i l. c.loop-k.invariant.1 i (omega arith))

@@ -9,12 +9,6 @@ use Rattle.challenge.specs.Rules.{vector_number}
 use Rattle.challenge.proofs.Laws.Lists.{line_zero, line_other, vectors_refused}
 use Rattle.challenge.proofs.lists.read_vectors.Goals as goal
 
-pub loop-t-init : goal.loop-t-init
-loop-t-init c = (omega arith, λ τ l. absurd (omega arith))
-
-pub line-requires : goal.line-requires
-line-requires c =     omega (arith, c.requires, row_inside c.args.setting.columns c.loop-t-test.true)
-
 pub returns-then-first_nonzero-columns : goal.returns-then-first_nonzero-columns
 returns-then-first_nonzero-columns c = vectors_refused _ _ (search rules) c.loop-t.invariant.1 (search line_zero)
 

@@ -14,8 +14,5 @@ overflow_add-sum c = record { fits = search total_fits }
 pub loop-j-preserved : goal.loop-j-preserved
 loop-j-preserved c = (omega arith, search reached_more)
 
-pub overflow_mul-result : goal.overflow_mul-result
-overflow_mul-result c = record { fits = search offset_fits }
-
 pub returns : goal.returns
 returns c = search offset_made

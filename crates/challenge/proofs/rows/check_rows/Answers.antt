@@ -10,18 +10,6 @@ use Rattle.challenge.specs.Laws.Rows.{row_steps}
 use Rattle.challenge.proofs.Laws.Rows.{line_inside, bias_within, row_sides, row_step}
 use Rattle.challenge.proofs.rows.check_rows.Goals as goal
 
-pub slice_bounds-z-end : goal.slice_bounds-z-end
-slice_bounds-z-end c = sym (length-take-le _ _ (bias_within c.requires c.bias_columns-width.ensures))
-
-pub loop-row-init : goal.loop-row-init
-loop-row-init c = run_none (ap (answer 0 0 0) (omega arith))
-
-pub line-requires : goal.line-requires
-line-requires c = line_inside _ c.loop-row-test.true c.requires.long_a
-
-pub line-requires-in-loop-row : goal.line-requires-in-loop-row
-line-requires-in-loop-row c = line_inside _ c.loop-row-test.true c.requires.long_claims
-
 pub check_row-answer-requires : goal.check_row-answer-requires
 check_row-answer-requires c =     row_sides c.requires c.bias_columns-width.ensures c.loop-row.invariant c.loop-row-test.true
     c.offset-right.ensures c.line.ensures c.line-in-loop-row.ensures

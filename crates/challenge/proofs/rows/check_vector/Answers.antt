@@ -2,12 +2,6 @@ use borrow.Author.Rules.{rules}
 use Rattle.challenge.proofs.Laws.Vectors.{line_within, line_fits, matrix_ready, rows_ready, vector_answered}
 use Rattle.challenge.proofs.rows.check_vector.Goals as goal
 
-pub line-requires : goal.line-requires
-line-requires c = search line_within
-
-pub widen-requires : goal.widen-requires
-widen-requires c = search line_fits
-
 pub product-requires : goal.product-requires
 product-requires c = search matrix_ready
 
