@@ -11,9 +11,6 @@ overflow_cast-height c = omega (arith, (limits c.requires.0).sizes.rows)
 pub overflow_cast-inner : goal.overflow_cast-inner
 overflow_cast-inner c = omega (arith, (limits c.requires.0).sizes.inner)
 
-pub overflow_add-of_bias : goal.overflow_add-of_bias
-overflow_add-of_bias c = omega (arith, claims_early c.requires.0)
-
 pub write_operand-requires : goal.write_operand-requires
 write_operand-requires c =
     let room_a : ticket_length c.args.setting ≤ length c.write_claims.new.output = omega (arith, c.write_claims.ensures.long, c.requires.2) in

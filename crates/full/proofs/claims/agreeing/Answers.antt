@@ -7,15 +7,9 @@ use Rattle.full.proofs.claims.agreeing.Goals as goal
 pub returns-then-all_agree : goal.returns-then-all_agree
 returns-then-all_agree c = sym (first_none _ _ (all_at _ _ (sym c.all_agree.ensures ∙ c.if-all_agree.true)))
 
-pub loop-j-init : goal.loop-j-init
-loop-j-init c = (omega arith, λ i l. absurd (omega arith))
-
 pub returns-then-wrapping_add_u32-claims : goal.returns-then-wrapping_add_u32-claims
 returns-then-wrapping_add_u32-claims c =     sym (first_is _ c.loop-j.j _ (omega arith) c.loop-j.invariant.1
     (ne_eqb _ _ (λ e. c.if-wrapping_add_u32-claims.true (c.wrapping_add_u32.ensures.value ∙ e))))
-
-pub loop-j-preserved : goal.loop-j-preserved
-loop-j-preserved c =     (omega arith, below_more _ _ c.loop-j.invariant.1 (eq-eqb _ _ (sym c.wrapping_add_u32.ensures.value ∙ c.if-wrapping_add_u32-claims.false)))
 
 pub returns : goal.returns
 returns c = let ended : c.loop-j.j ≡ length c.args.sums.now = omega arith in

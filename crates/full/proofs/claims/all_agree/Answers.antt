@@ -9,7 +9,3 @@ loop-k-init c = (omega arith, all_none _)
 
 pub loop-k-preserved : goal.loop-k-preserved
 loop-k-preserved c =     (omega arith, all_next c.loop-k.k _ c.loop-k.invariant.1 (rw c.wrapping_add_u32.ensures.value))
-
-pub returns : goal.returns
-returns c = let ended : c.loop-k.k ≡ length c.args.sums.now = omega arith in
-    rw ended at c.loop-k.invariant.1

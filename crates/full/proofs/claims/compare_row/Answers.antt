@@ -14,14 +14,6 @@ pub overflow_add-products : goal.overflow_add-products
 overflow_add-products c = let few : let G = c.args.setting in (c.agreeing-count.result ≤ G.columns) × (G.inner * c.agreeing-count.result ≤ G.inner * G.columns) = few_agree c.row_sums.ensures c.requires c.agreeing-count.ensures in
     omega (arith, few)
 
-pub overflow_cast-place : goal.overflow_cast-place
-overflow_cast-place c = let few : let G = c.args.setting in (c.agreeing-count.result ≤ G.columns) × (G.inner * c.agreeing-count.result ≤ G.inner * G.columns) = few_agree c.row_sums.ensures c.requires c.agreeing-count.ensures in
-    omega (arith, few)
-
-pub overflow_add-made : goal.overflow_add-made
-overflow_add-made c = let few : let G = c.args.setting in (c.agreeing-count.result ≤ G.columns) × (G.inner * c.agreeing-count.result ≤ G.inner * G.columns) = few_agree c.row_sums.ensures c.requires c.agreeing-count.ensures in
-    omega (arith, few)
-
 pub returns-then-count-width : goal.returns-then-count-width
 returns-then-count-width c = search row_untrue
 

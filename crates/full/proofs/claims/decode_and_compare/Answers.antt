@@ -3,21 +3,9 @@ use Rattle.ticket.specs.Laws.Limits.{lift}
 use Rattle.full.proofs.Laws.Claims.{ListsHold, lists_hold, lifting_is, sums_ready, sums_verdict}
 use Rattle.full.proofs.claims.decode_and_compare.Goals as goal
 
-pub overflow_cast-setting : goal.overflow_cast-setting
-overflow_cast-setting c = omega (arith, c.requires.0.counts.sizes.inner)
-
-pub overflow_cast-setting-2 : goal.overflow_cast-setting-2
-overflow_cast-setting-2 c = omega (arith, c.requires.0.counts.sizes.columns)
-
 pub overflow_cast-lift : goal.overflow_cast-lift
 overflow_cast-lift c = let lifted : let setting = c.args.setting in (c.lift_of-lift.result ≡ lift setting) × (c.lift_of-lift.result < 2 ^ 31) = lifting_is c.requires.0 c.half-half.ensures c.lift_of-lift.ensures in
     omega (arith, lifted)
-
-pub slice_bounds-sums-end : goal.slice_bounds-sums-end
-slice_bounds-sums-end c = omega (arith, c.requires.0.counts.sizes.columns)
-
-pub slice_bounds-compare-end : goal.slice_bounds-compare-end
-slice_bounds-compare-end c = sym (length-take-le _ _ (omega (arith, c.requires.0.counts.sizes.columns)))
 
 pub compare-requires : goal.compare-requires
 compare-requires c = let lists : ListsHold c.args.setting c.args.ticket.now c.narrow_entries-2.new.list c.turn.new.list c.subtract_entries.new.list =         lists_hold c.requires.0 c.requires.1 c.part-a.ensures c.part-b.ensures
@@ -26,12 +14,6 @@ compare-requires c = let lists : ListsHold c.args.setting c.args.ticket.now c.na
     c.subtract_entries.ensures in
     let lifted : let setting = c.args.setting in (c.lift_of-lift.result ≡ lift setting) × (c.lift_of-lift.result < 2 ^ 31) = lifting_is c.requires.0 c.half-half.ensures c.lift_of-lift.ensures in
         sums_ready c.requires.0 (lists) (length-take-le _ _ (omega (arith, c.requires.0.counts.sizes.columns))) (lifted).0
-
-pub shape_of-rows : goal.shape_of-rows
-shape_of-rows c =     c.narrow_entries-2.ensures.long ∙ c.narrow_entries.ensures.long
-
-pub shape_of-columns : goal.shape_of-columns
-shape_of-columns c = let at = c.turn in search rules
 
 pub returns : goal.returns
 returns c = let lists : ListsHold c.args.setting c.args.ticket.now c.narrow_entries-2.new.list c.turn.new.list c.subtract_entries.new.list =         lists_hold c.requires.0 c.requires.1 c.part-a.ensures c.part-b.ensures

@@ -16,6 +16,10 @@ signed x = to_z_pos w32 {n = x % modulus} (omega arith)
 lowered : (x : ℕ) → to_z w32 (x % modulus) -ℤ pos modulus ≡ negsuc (modulus - suc (x % modulus))
 lowered x = ap (λ y. y -ℤ pos modulus) (signed x) ∙ less_modulus modulus modulus_positive (x % modulus) (mod-lt x modulus_positive)
 
+pub overflow_sub-negative : goal.overflow_sub-negative
+unfolding modulus
+overflow_sub-negative c = subst⁻¹ (FitsSigned w32) (lowered c.args.self.0) (record { sfits = omega arith })
+
 pub returns-then-least-le-LARGEST_ENTRY : goal.returns-then-least-le-LARGEST_ENTRY
 unfolding modulus least_residue
 returns-then-least-le-LARGEST_ENTRY c =

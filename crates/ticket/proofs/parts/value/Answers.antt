@@ -3,9 +3,6 @@ use borrow.Author.Tests.{lt-leb}
 use Rattle.ticket.specs.Rules.{value_at}
 use Rattle.ticket.proofs.parts.value.Goals as goal
 
-pub returns-then-bytes-lt-RECORD : goal.returns-then-bytes-lt-RECORD
-returns-then-bytes-lt-RECORD c = rw (lt-leb _ _ c.if-bytes-lt-RECORD.true)
-
 pub returns : goal.returns
 unfolding value_at
 returns c = rw (le-leb _ _ c.if-bytes-lt-RECORD.false) c.word.ensures

@@ -3,14 +3,8 @@ use Rattle.ticket.proofs.Laws.Limits.{bias_columns_most, half_small}
 use Rattle.ticket.proofs.Laws.Parts.{bounds_small, forms_make}
 use Rattle.ticket.proofs.records.form_of.Goals as goal
 
-pub entries_form-requires : goal.entries_form-requires
-entries_form-requires c = (bounds_small c.requires.0).0
-
 pub returns-then-part-eq0 : goal.returns-then-part-eq0
 returns-then-part-eq0 c = rw (c.if-part-eq0.true, c.entries_form.ensures) (forms_make c.requires.0).0
-
-pub entries_form-requires-then-part-eq1 : goal.entries_form-requires-then-part-eq1
-entries_form-requires-then-part-eq1 c = (bounds_small c.requires.0).0
 
 pub returns-then-part-eq1 : goal.returns-then-part-eq1
 returns-then-part-eq1 c = rw (c.if-part-eq1.true, c.entries_form-then-part-eq1.ensures) (forms_make c.requires.0).1

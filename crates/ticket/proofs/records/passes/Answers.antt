@@ -9,24 +9,6 @@ use Rattle.ticket.proofs.records.passes.Goals as goal
 pub loop-ok-init : goal.loop-ok-init
 loop-ok-init c = (omega arith, omega arith, all_none _)
 
-pub row_passes-ok-requires : goal.row_passes-ok-requires
-row_passes-ok-requires c = let below : c.loop-ok.row < c.args.form.rows = c.if-row-form.true in
-    let inside : let form = c.args.form in c.loop-ok.row * form.columns + form.columns ≤ form.rows * form.columns = row_inside c.args.form.columns (below) in
-    (omega (arith, inside), c.requires.range)
-
-pub overflow_add-start : goal.overflow_add-start
-overflow_add-start c = let below : c.loop-ok.row < c.args.form.rows = c.if-row-form.true in
-    let inside : let form = c.args.form in c.loop-ok.row * form.columns + form.columns ≤ form.rows * form.columns = row_inside c.args.form.columns (below) in
-    omega (arith, inside)
-
-pub overflow_add-row : goal.overflow_add-row
-overflow_add-row c = let below : c.loop-ok.row < c.args.form.rows = c.if-row-form.true in
-    omega (arith, below)
-
-pub loop-ok-smaller : goal.loop-ok-smaller
-loop-ok-smaller c = let below : c.loop-ok.row < c.args.form.rows = c.if-row-form.true in
-    omega (arith, below)
-
 pub loop-ok-preserved : goal.loop-ok-preserved
 loop-ok-preserved c = let below : c.loop-ok.row < c.args.form.rows = c.if-row-form.true in
         (
@@ -34,11 +16,6 @@ loop-ok-preserved c = let below : c.loop-ok.row < c.args.form.rows = c.if-row-fo
       omega arith,
       rows_passing _ _ _ c.loop-ok.invariant.1 (sym c.loop-ok-test.true ∙ c.loop-ok.invariant.2) c.row_passes-ok.ensures,
     )
-
-pub returns-else-row-form : goal.returns-else-row-form
-returns-else-row-form c =     let form = c.args.form in
-    let last : c.loop-ok.row ≡ form.rows = omega (arith, c.if-row-form.false) in
-    rw (c.loop-ok.invariant.1, last) at c.loop-ok.invariant.2
 
 pub returns-after-loop-ok : goal.returns-after-loop-ok
 returns-after-loop-ok c =         let rows = mul-le-mul_right c.args.form.columns c.loop-ok.invariant.0 in

@@ -7,13 +7,6 @@ use Rattle.ticket.proofs.records.row_passes.Goals as goal
 pub loop-column-init : goal.loop-column-init
 loop-column-init c = (omega arith, omega arith, all_none _)
 
-pub record_passes-ok-requires : goal.record_passes-ok-requires
-record_passes-ok-requires c = (omega arith, c.requires.1)
-
 pub loop-column-preserved : goal.loop-column-preserved
 loop-column-preserved c = let at = c.loop-column.invariant in
     (omega arith, omega arith, all_next _ _ at.2 (c.record_passes-ok.ensures ∙ rw at.1))
-
-pub returns : goal.returns
-returns c =     let last : c.loop-column.column ≡ c.args.form.columns = omega arith in
-    rw last at c.loop-column.invariant.2

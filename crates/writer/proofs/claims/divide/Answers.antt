@@ -3,9 +3,6 @@ use Rattle.residue.proofs.Laws.Modulus.{modulus_above}
 use Rattle.writer.proofs.Laws.Claims.{half_low, quotient_low, quotient_high, remainder_made}
 use Rattle.writer.proofs.claims.divide.Goals as goal
 
-pub overflow_sub-result : goal.overflow_sub-result
-overflow_sub-result c = omega (arith, half_low c.requires _ c.wrapping_add_u32-lifted.ensures.value, modulus_above, c.modulus.ensures)
-
 pub returns-then-shifted-half : goal.returns-then-shifted-half
 returns-then-shifted-half c = record { quotient_is = search quotient_low; remainder_is = search remainder_made }
 

@@ -18,21 +18,6 @@ narrow_columns-requires c =
     let pre = c.requires in
     record { entries = small_b pre.writable; long = long_b pre.writable; room = omega (arith, long_b pre.writable, pre.long_columns) }
 
-pub overflow_add-quotients : goal.overflow_add-quotients
-overflow_add-quotients c =
-    let early : let of = c.args in length of.a.now + length of.b.now + length of.bias.now + of.setting.rows * of.setting.columns < 2 ^ 16 = claims_early c.requires.writable in
-    omega (arith, early)
-
-pub overflow_add-quotients-2 : goal.overflow_add-quotients-2
-overflow_add-quotients-2 c =
-    let early : let of = c.args in length of.a.now + length of.b.now + length of.bias.now + of.setting.rows * of.setting.columns < 2 ^ 16 = claims_early c.requires.writable in
-    omega (arith, early)
-
-pub overflow_mul-remainders : goal.overflow_mul-remainders
-overflow_mul-remainders c =
-    let early : let of = c.args in length of.a.now + length of.b.now + length of.bias.now + of.setting.rows * of.setting.columns < 2 ^ 16 = claims_early c.requires.writable in
-    omega (arith, early)
-
 pub overflow_add-remainders : goal.overflow_add-remainders
 overflow_add-remainders c =
     let early : let of = c.args in length of.a.now + length of.b.now + length of.bias.now + of.setting.rows * of.setting.columns < 2 ^ 16 = claims_early c.requires.writable in
@@ -40,18 +25,6 @@ overflow_add-remainders c =
 
 pub loop-row-init : goal.loop-row-init
 loop-row-init c = (rows_begun c.requires, rows_none _ _ _ _)
-
-pub overflow_add-end : goal.overflow_add-end
-overflow_add-end c =
-    let more : c.loop-row.row < c.args.setting.rows = c.loop-row-test.true in
-    let room : let of = c.args in RowRoom of.setting of.a.now c.loop-row.row c.loop-row.from c.loop-row.line c.loop-row.quotients c.loop-row.remainders = row_room c.requires c.loop-row.invariant.0 (more) in
-    omega (arith, room)
-
-pub offset_bounds-a-from : goal.offset_bounds-a-from
-offset_bounds-a-from c =
-    let more : c.loop-row.row < c.args.setting.rows = c.loop-row-test.true in
-    let room : let of = c.args in RowRoom of.setting of.a.now c.loop-row.row c.loop-row.from c.loop-row.line c.loop-row.quotients c.loop-row.remainders = row_room c.requires c.loop-row.invariant.0 (more) in
-    omega (arith, room)
 
 pub slice_bounds-narrow-end : goal.slice_bounds-narrow-end
 slice_bounds-narrow-end c =
@@ -65,9 +38,6 @@ narrow-requires c =
     let room : let of = c.args in RowRoom of.setting of.a.now c.loop-row.row c.loop-row.from c.loop-row.line c.loop-row.quotients c.loop-row.remainders = row_room c.requires c.loop-row.invariant.0 (more) in
     let inside = (room).in_a in
     record { entries = small_part _ _ (search small_a) inside; long = part_long _ _ _ inside ∙ omega arith; inside = omega arith }
-
-pub overflow_mul-row : goal.overflow_mul-row
-overflow_mul-row c = record { fits = product_below 32 (omega arith) (omega arith) }
 
 pub write_row-requires : goal.write_row-requires
 write_row-requires c =
@@ -92,9 +62,6 @@ overflow_add-row c =
     let room : let of = c.args in RowRoom of.setting of.a.now c.loop-row.row c.loop-row.from c.loop-row.line c.loop-row.quotients c.loop-row.remainders = row_room c.requires c.loop-row.invariant.0 (more) in
     omega (arith, room)
 
-pub loop-row-smaller : goal.loop-row-smaller
-loop-row-smaller c = omega (arith, c.loop-row-test.true)
-
 pub loop-row-preserved : goal.loop-row-preserved
 loop-row-preserved c =
     let more : c.loop-row.row < c.args.setting.rows = c.loop-row-test.true in
@@ -104,17 +71,3 @@ loop-row-preserved c =
       rows_more c.loop-row.invariant.0 left c.requires.writable line c.narrow_columns.ensures c.requires.long_columns
           c.row_sums.ensures c.loop-row.invariant.1 c.write_row.ensures,
     )
-
-pub shape_of-line : goal.shape_of-line
-shape_of-line c = c.loop-row.invariant.0.long_line ∙ sym c.requires.long_line
-
-pub shape_of-sums : goal.shape_of-sums
-shape_of-sums c = c.loop-row.invariant.0.long_sums ∙ sym c.requires.long_sums
-
-pub shape_of-output : goal.shape_of-output
-shape_of-output c = c.loop-row.invariant.1.long
-
-pub returns : goal.returns
-returns c =
-    let all : c.loop-row.row ≡ c.args.setting.rows = omega (arith, c.loop-row.invariant.0.within) in
-    rw all at c.loop-row.invariant.1

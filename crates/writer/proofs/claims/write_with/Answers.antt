@@ -2,12 +2,6 @@ use Rattle.std.proofs.Common.{sym, arith, length-take-le, rules}
 use Rattle.writer.proofs.Laws.Entries.{long_b}
 use Rattle.writer.proofs.claims.write_with.Goals as goal
 
-pub slice_bounds-write_rows-end-2 : goal.slice_bounds-write_rows-end-2
-slice_bounds-write_rows-end-2 c = sym (length-take-le _ _ (search))
-
-pub slice_bounds-write_rows-end-4 : goal.slice_bounds-write_rows-end-4
-slice_bounds-write_rows-end-4 c = sym (length-take-le _ _ (search))
-
 pub write_rows-requires : goal.write_rows-requires
 write_rows-requires c =
     let pre = c.requires in

@@ -12,6 +12,3 @@ pub loop-k-preserved : goal.loop-k-preserved
 loop-k-preserved c =
     let size = size_read c.args.operand.now c.loop-k.k c.magnitude-arg-1.given c.magnitude.ensures in
     (omega arith, all_next c.loop-k.k _ c.loop-k.invariant.1 (ap (λ n. leb n c.args.bound) size))
-
-pub returns : goal.returns
-returns c = c.loop-k.invariant.1 ∙ ap (λ n. all n (within_at c.args.bound c.args.operand.now)) (omega arith)

@@ -7,26 +7,12 @@ returns-then-all_within c =
     sym (beyond_within c.args.bound c.args.number c.args.operand.now c.args.start
     c.all_within.ensures c.if-all_within.true)
 
-pub loop-k-init : goal.loop-k-init
-loop-k-init c = (omega arith, λ i l. absurd (omega arith))
-
-pub overflow_cast-result : goal.overflow_cast-result
-overflow_cast-result c = omega (arith, c.requires)
-
-pub overflow_add-result : goal.overflow_add-result
-overflow_add-result c = omega (arith, c.requires)
-
 pub returns-then-bound-magnitude : goal.returns-then-bound-magnitude
 returns-then-bound-magnitude c =
     let size_is : c.magnitude.result ≡ nat_abs (get_or c.args.operand.now c.loop-k.k (pos 0)) = size_read c.args.operand.now c.loop-k.k c.magnitude-arg-1.given c.magnitude.ensures in
     sym (beyond_at c.args.bound c.args.number c.args.operand.now c.args.start
     c.requires.1 c.loop-k-test.true
     c.loop-k.invariant.1 (omega (arith, size_is, c.if-bound-magnitude.true)))
-
-pub loop-k-preserved : goal.loop-k-preserved
-loop-k-preserved c =
-    let size_is : c.magnitude.result ≡ nat_abs (get_or c.args.operand.now c.loop-k.k (pos 0)) = size_read c.args.operand.now c.loop-k.k c.magnitude-arg-1.given c.magnitude.ensures in
-    (omega arith, before_more c.args.bound c.args.number c.args.operand.now c.loop-k.invariant.1 (size_is) c.if-bound-magnitude.false)
 
 pub returns : goal.returns
 returns c =

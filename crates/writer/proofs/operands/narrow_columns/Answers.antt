@@ -6,41 +6,6 @@ use Rattle.algebra.proofs.Laws.Positions.{row_inside}
 use Rattle.exact.specs.Laws.Matrices.{turned_number}
 use Rattle.writer.proofs.operands.narrow_columns.Goals as goal
 
-pub loop-column-init : goal.loop-column-init
-loop-column-init c = (omega arith, omega arith, filled_none)
-
-pub overflow_add-end : goal.overflow_add-end
-overflow_add-end c =
-    let room : c.loop-column.start + c.args.height ≤ length c.args.list.now = omega (arith, row_inside c.args.height c.loop-column-test.true, c.loop-column.invariant.1, c.requires.room) in
-    omega (arith, room)
-
-pub offset_bounds-list-start : goal.offset_bounds-list-start
-offset_bounds-list-start c =
-    let room : c.loop-column.start + c.args.height ≤ length c.args.list.now = omega (arith, row_inside c.args.height c.loop-column-test.true, c.loop-column.invariant.1, c.requires.room) in
-    omega (arith, room)
-
-pub slice_bounds-narrow-count : goal.slice_bounds-narrow-count
-slice_bounds-narrow-count c =
-    let room : c.loop-column.start + c.args.height ≤ length c.args.list.now = omega (arith, row_inside c.args.height c.loop-column-test.true, c.loop-column.invariant.1, c.requires.room) in
-    omega (arith, room)
-
-pub slice_bounds-narrow-start : goal.slice_bounds-narrow-start
-slice_bounds-narrow-start c =
-    let room : c.loop-column.start + c.args.height ≤ length c.args.list.now = omega (arith, row_inside c.args.height c.loop-column-test.true, c.loop-column.invariant.1, c.requires.room) in
-    omega (arith, room)
-
-pub slice_bounds-narrow-end : goal.slice_bounds-narrow-end
-slice_bounds-narrow-end c =
-    let room : c.loop-column.start + c.args.height ≤ length c.args.list.now = omega (arith, row_inside c.args.height c.loop-column-test.true, c.loop-column.invariant.1, c.requires.room) in
-    omega (arith, room, c.loop-column.invariant.2.long)
-
-pub narrow-requires : goal.narrow-requires
-narrow-requires c =
-    let room : c.loop-column.start + c.args.height ≤ length c.args.list.now = omega (arith, row_inside c.args.height c.loop-column-test.true, c.loop-column.invariant.1, c.requires.room) in
-    let long : let height = c.args.height in let at = c.loop-column in length (take (at.start + height - at.start) (drop at.start at.list)) ≡ height = let at = c.loop-column in
-    part_long at.list at.start c.args.height (omega (arith, room, at.invariant.2.long)) in
-    record { entries = search; long = search (long); inside = search }
-
 pub loop-column-preserved : goal.loop-column-preserved
 loop-column-preserved c =
     let room : c.loop-column.start + c.args.height ≤ length c.args.list.now = omega (arith, row_inside c.args.height c.loop-column-test.true, c.loop-column.invariant.1, c.requires.room) in
@@ -54,12 +19,3 @@ loop-column-preserved c =
           (part_replaced (pos 0) at.list at.start _ _ (filled.long ∙ long) (omega (arith, room, at.invariant.2.long)))
           (λ i l. sym (rw (at.invariant.1, digits_mod at.column l, digits_div at.column l))),
     )
-
-pub shape_of-list : goal.shape_of-list
-shape_of-list c = c.loop-column.invariant.2.long
-
-pub returns : goal.returns
-returns c =
-    let all : c.loop-column.start ≡ c.args.width * c.args.height =
-    c.loop-column.invariant.1 ∙ ap (λ n. n * c.args.height) (omega arith) in
-    rw all at c.loop-column.invariant.2

@@ -25,11 +25,6 @@ returns-then-n-lt0 c =
     let negative : let z = c.args.entry.0 in to_z w32 (of_z w32 z) +ℤ to_z w32 c.modulus.result ≡ pos (least_residue modulus z) = search residue_negative in
     natural_is (overflow_add-result c) (negative)
 
-pub overflow_cast-result-2 : goal.overflow_cast-result-2
-overflow_cast-result-2 c =
-    let positive : let z = c.args.entry.0 in z ≡ pos (least_residue modulus z) = search residue_positive in
-    natural_cast (entry_fits _ (search)) (positive) (below _)
-
 pub returns : goal.returns
 returns c =
     let positive : let z = c.args.entry.0 in z ≡ pos (least_residue modulus z) = search residue_positive in

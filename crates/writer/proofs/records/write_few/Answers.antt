@@ -6,33 +6,6 @@ use Rattle.writer.proofs.Laws.Lines.{operand_none, operand_record}
 use Rattle.writer.proofs.Laws.Operands.{entry_read}
 use Rattle.writer.proofs.records.write_few.Goals as goal
 
-pub loop-k-init : goal.loop-k-init
-loop-k-init c = (omega arith, λ l. position_none (c.requires.some l), omega arith, operand_none)
-
-pub residue-value-requires : goal.residue-value-requires
-residue-value-requires c =
-    let entry : ℤ = get_or c.args.operand.now c.loop-k.k (pos 0) in
-    let small : nat_abs (entry) < 2 ^ 30 = c.requires.entries_small.small c.loop-k.k c.loop-k-test.true in
-    rw (entry_read (entry) (small)) (small)
-
-pub overflow_add-start : goal.overflow_add-start
-overflow_add-start c = omega (arith, c.requires.room)
-
-pub write_record-requires : goal.write_record-requires
-write_record-requires c = omega (arith, c.loop-k.invariant.2, c.requires.room, c.loop-k-test.true)
-
-pub overflow_add-column : goal.overflow_add-column
-overflow_add-column c =
-    let position : let at = c.loop-k in Position c.args.width at.k at.row at.column = c.loop-k.invariant.1 c.loop-k-test.true in
-    let few : let at = c.loop-k in (at.row < 64) × (at.column < 64) = omega (arith, position, c.requires.few, c.requires.wide, c.loop-k-test.true) in
-    omega (arith, few)
-
-pub overflow_add-row : goal.overflow_add-row
-overflow_add-row c =
-    let position : let at = c.loop-k in Position c.args.width at.k at.row at.column = c.loop-k.invariant.1 c.loop-k-test.true in
-    let few : let at = c.loop-k in (at.row < 64) × (at.column < 64) = omega (arith, position, c.requires.few, c.requires.wide, c.loop-k-test.true) in
-    omega (arith, few)
-
 pub loop-k-preserved-then-column-width : goal.loop-k-preserved-then-column-width
 loop-k-preserved-then-column-width c =
     let position : let at = c.loop-k in Position c.args.width at.k at.row at.column = c.loop-k.invariant.1 c.loop-k-test.true in
@@ -60,9 +33,6 @@ loop-k-preserved c =
           header value c.loop-k.invariant.3 c.write_record.ensures,
     ) in
     (omega (arith, c.loop-k-test.true), λ l. position_next (position) c.if-column-width.false, (wrote).0, (wrote).1)
-
-pub shape_of-output : goal.shape_of-output
-shape_of-output c = c.loop-k.invariant.2
 
 pub returns : goal.returns
 returns c =

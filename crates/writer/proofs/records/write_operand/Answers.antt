@@ -6,60 +6,6 @@ use Rattle.writer.proofs.Laws.Lines.{few_ready, operand_none, row_records}
 use Rattle.writer.proofs.Laws.Operands.{small_part}
 use Rattle.writer.proofs.records.write_operand.Goals as goal
 
-pub write_few-requires : goal.write_few-requires
-write_few-requires c = few_ready c.requires (omega arith)
-
-pub shape_of-output-then-operand-le-FEW : goal.shape_of-output-then-operand-le-FEW
-shape_of-output-then-operand-le-FEW c = c.write_few.ensures.long
-
-pub returns-then-operand-le-FEW : goal.returns-then-operand-le-FEW
-returns-then-operand-le-FEW c = c.write_few.ensures
-
-pub loop-row-init : goal.loop-row-init
-loop-row-init c = (omega arith, omega arith, omega arith, operand_none)
-
-pub overflow_add-end : goal.overflow_add-end
-overflow_add-end c =
-    let more : c.loop-row.row < c.args.height = c.loop-row-test.true in
-    let room : c.loop-row.first + c.args.width ≤ c.args.height * c.args.width = omega (arith, row_inside c.args.width (more), c.loop-row.invariant.1) in
-    omega (arith, room, c.requires.count)
-
-pub overflow_add-start : goal.overflow_add-start
-overflow_add-start c =
-    let more : c.loop-row.row < c.args.height = c.loop-row-test.true in
-    let room : c.loop-row.first + c.args.width ≤ c.args.height * c.args.width = omega (arith, row_inside c.args.width (more), c.loop-row.invariant.1) in
-    omega (arith, room, c.requires.room)
-
-pub offset_bounds-operand-first : goal.offset_bounds-operand-first
-offset_bounds-operand-first c =
-    let more : c.loop-row.row < c.args.height = c.loop-row-test.true in
-    let room : c.loop-row.first + c.args.width ≤ c.args.height * c.args.width = omega (arith, row_inside c.args.width (more), c.loop-row.invariant.1) in
-    omega (arith, room, c.requires.count)
-
-pub slice_bounds-write_line-start : goal.slice_bounds-write_line-start
-slice_bounds-write_line-start c =
-    let more : c.loop-row.row < c.args.height = c.loop-row-test.true in
-    let room : c.loop-row.first + c.args.width ≤ c.args.height * c.args.width = omega (arith, row_inside c.args.width (more), c.loop-row.invariant.1) in
-    omega (arith, room)
-
-pub slice_bounds-write_line-end : goal.slice_bounds-write_line-end
-slice_bounds-write_line-end c =
-    let more : c.loop-row.row < c.args.height = c.loop-row-test.true in
-    let room : c.loop-row.first + c.args.width ≤ c.args.height * c.args.width = omega (arith, row_inside c.args.width (more), c.loop-row.invariant.1) in
-    omega (arith, room, c.requires.count)
-
-pub write_line-requires : goal.write_line-requires
-write_line-requires c =
-    let more : c.loop-row.row < c.args.height = c.loop-row-test.true in
-    let room : c.loop-row.first + c.args.width ≤ c.args.height * c.args.width = omega (arith, row_inside c.args.width (more), c.loop-row.invariant.1) in
-    let fits : c.loop-row.first + c.args.width ≤ length c.args.operand.now = omega (arith, room, c.requires.count) in
-    let long : let at = c.loop-row in length (take (at.first + c.args.width - at.first) (drop at.first c.args.operand.now)) ≡ c.args.width = part_long _ _ _ (fits) in
-    record {
-      entries_small = small_part _ _ (search) (fits);
-      wide = omega (arith, long, c.requires.wide);
-      room = omega (arith, long, room, c.requires.room, c.loop-row.invariant.2);
-    }
-
 pub loop-row-preserved : goal.loop-row-preserved
 loop-row-preserved c =
     let more : c.loop-row.row < c.args.height = c.loop-row-test.true in
@@ -70,9 +16,6 @@ loop-row-preserved c =
     let left = more in
     let line = rw (long) at c.write_line.ensures in
     (omega arith, omega (arith, at.invariant.1), line.long ∙ at.invariant.2, row_records at.row (fits) at.invariant.1 at.invariant.3 line)
-
-pub shape_of-output : goal.shape_of-output
-shape_of-output c = c.loop-row.invariant.2
 
 pub returns : goal.returns
 returns c =

@@ -8,9 +8,6 @@ returns-then-part-eq0 c = rw (c.if-part-eq0.true, c.clamped-s.ensures.0) (sym (p
 pub returns-then-part-eq1 : goal.returns-then-part-eq1
 returns-then-part-eq1 c = rw (c.if-part-eq1.true, c.clamped-s.ensures.0) (sym (parts_are _).size_b)
 
-pub overflow_mul-result-then-part-eq2 : goal.overflow_mul-result-then-part-eq2
-overflow_mul-result-then-part-eq2 c = rw c.bias_columns.ensures (omega (arith, c.clamped-s.ensures.1))
-
 pub returns-then-part-eq2 : goal.returns-then-part-eq2
 returns-then-part-eq2 c =     rw (c.if-part-eq2.true, c.bias_columns.ensures, c.clamped-s.ensures.0) (sym (parts_are _).size_bias)
 
