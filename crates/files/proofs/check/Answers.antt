@@ -6,8 +6,5 @@ use Rattle.files.proofs.check.Goals as goal
 pub returns-then-setting-ne-SETTING_BYTES : goal.returns-then-setting-ne-SETTING_BYTES
 returns-then-setting-ne-SETTING_BYTES c = search setting_file_refused
 
-pub slice_bounds-check-end : goal.slice_bounds-check-end
-slice_bounds-check-end c = (read_long _ c.numbers-list.ensures c.count-count.ensures.within).1
-
 pub returns : goal.returns
 returns c = search list_checked

@@ -14,11 +14,6 @@ overflow_add-row c = omega (arith, c.bias_columns.ensures, bias_columns_most c.a
 pub overflow_add-row-2 : goal.overflow_add-row-2
 overflow_add-row-2 c = omega (arith, c.bias_columns.ensures, bias_columns_most c.args.setting, c.requires.sizes)
 
-pub overflow_mul-result : goal.overflow_mul-result
-overflow_mul-result c =
-    let few : Counts c.args.setting = counts c.requires.sizes in
-    omega (arith, few)
-
 pub overflow_mul-result-2 : goal.overflow_mul-result-2
 overflow_mul-result-2 c =
     let few : Counts c.args.setting = counts c.requires.sizes in
@@ -36,6 +31,3 @@ overflow_mul-result-3 c =
     let one : vector_products G ≤ most_inner * most_columns + most_rows * (2 * most_columns + most_inner) = omega (arith, few) in
     mul-le-mul c.requires.sizes.vectors.1 one in
     rw c.bias_columns.ensures (omega (arith, all))
-
-pub returns : goal.returns
-returns c = rw c.bias_columns.ensures

@@ -6,9 +6,6 @@ use Rattle.run.proofs.Laws.Additions.{addition_passed, lengthened_sizes}
 use Rattle.run.proofs.Laws.States.{tested_refused, tested_passed}
 use Rattle.run.proofs.Run.add.Goals as goal
 
-pub answered-requires : goal.answered-requires
-answered-requires c = λ z. absurd (c.if-read-ne0.true z)
-
 pub returns-then-read-ne0 : goal.returns-then-read-ne0
 returns-then-read-ne0 c =
     let fails = c.if-read-ne0.true in

@@ -8,10 +8,6 @@ use Rattle.run.specs.Rules.{marked, refused, standing, zeros}
 use Rattle.run.proofs.Laws.States.{tested_refused, tested_passed, testing_passed, testing_plain}
 use Rattle.run.proofs.Run.begin.Goals as goal
 
--- zeros are asked for nothing but the refusal
-pub answered-requires : goal.answered-requires
-answered-requires c = λ z. absurd (c.if-read-ne0.true z)
-
 pub returns-then-read-ne0 : goal.returns-then-read-ne0
 returns-then-read-ne0 c =
     let read_is : let args = c.args in c.read-read.result ≡ testing (plain args.setting) args.ticket.now args.list.now = testing_plain c.plain.ensures _ _ c.read-read.ensures in

@@ -13,9 +13,6 @@ use Rattle.run.proofs.Run.told.Goals as goal
 pub returns-then-read-ne0 : goal.returns-then-read-ne0
 returns-then-read-ne0 c = tested_refused _ refl _ c.if-read-ne0.true refl
 
-pub products_done-requires : goal.products_done-requires
-products_done-requires c = record { sizes = c.requires c.if-read-ne0.false; vectors = omega arith; rows = omega arith }
-
 pub returns-then-is_past : goal.returns-then-is_past
 returns-then-is_past c =
     let self = c.args.self in

@@ -1,8 +1,0 @@
-use mathlib.Core.Path.{ap, ◌∙◌}
-use mir.Facts.{to_z-of_z}
-use Rattle.residue.specs.Rules.{modulus, least_residue}
-use borrow.Author.Rules.{rules}
-use Rattle.dikdumar_residue.proofs.dikdumar_from_signed.Goals as goal
-
-pub returns : goal.returns
-returns c = c.from_signed.ensures ∙ ap (least_residue modulus) (to_z-of_z c.ranges.x)
