@@ -1,5 +1,5 @@
 -- Runs with the ticket of the marked examples, under the setting K: one table that the checker computes over the rules.
-use Rattle.std.specs.Prelude.{ℕ, ◌≡◌, refl, List, [], ◌∷◌, ◌++◌, map, set}
+use Rattle.std.specs.Prelude.{ℕ, ◌≡◌, refl, List, [], ◌∷◌, map, set}
 use Rattle.residue.specs.Rules.{modulus, least_residue, signed_entry}
 use Rattle.algebra.specs.Rules.{int_sum}
 use Rattle.ticket.specs.declared.published.PlainSetting.{PlainSetting}
@@ -9,7 +9,7 @@ use Rattle.ticket.proofs.Examples.{true_ticket}
 use Rattle.challenge.specs.Rules.{list_number, first_nonzero, vector_number, list_reading, product_b, claim_side, operand_side_by, balanced_by, first_row, verdict, challenge_check, listed, product_at, balanced_at}
 use Rattle.run.specs.declared.Run.{Run}
 use Rattle.run.specs.declared.RunAnswer.{RunAnswer}
-use Rattle.run.specs.Rules.{under_way, caught_mark, complete, refused, held_list, is_past, is_caught, products_done, standing, tested, begun, beginning, moved, worked, stepping, placed, with_vectors, addition_reading, adding, Action, step, add, acting, last_answer, ran, steps}
+use Rattle.run.specs.Rules.{under_way, caught_mark, complete, refused, held_list, is_past, is_caught, products_done, standing, tested, begun, beginning, moved, worked, stepping, placed, addition_reading, adding, Action, step, add, acting, last_answer, ran}
 
 -- K with s vectors
 K : ℕ → PlainSetting

@@ -2,7 +2,7 @@
 --
 --   Filled d b n f l     l is the list b with its first n elements f 0 to f (n - 1); d stands past the end
 --   line_at x n i         line i of lines of n elements each
-use Rattle.std.specs.Prelude.{ℕ, ◌+◌, ◌-◌, ◌*◌, ◌/◌, ◌%◌, ◌≤◌, ◌<◌, ◌≡◌, refl, List, ◌++◌, ◌⊎◌, length, get_or, set, take, drop}
+use Rattle.std.specs.Prelude.{ℕ, ◌+◌, ◌-◌, ◌*◌, ◌≤◌, ◌<◌, ◌≡◌, List, length, get_or, take, drop}
 
 pub record Filled {A : Type 0} (d : A) (before : List A) (count : ℕ) (f : ℕ → A) (list : List A) : Type 0 where
   pub long : length list ≡ length before

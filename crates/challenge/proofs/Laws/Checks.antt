@@ -4,7 +4,7 @@
 --   check_list      where the ticket passes and the list is refused, so is the check
 --   check_rows      where both pass, the check is the verdict of the rows
 --   rows_can        then the rows can be worked through
-use Rattle.std.specs.Prelude.{◌≡◌, List, ℕ, ◌+◌, ◌*◌, ◌≤◌}
+use Rattle.std.specs.Prelude.{◌≡◌, List, ℕ}
 use Rattle.std.proofs.Common.{sym, ap, ◌∙◌}
 use Rattle.ticket.specs.declared.setting.Setting.{Setting}
 use Rattle.ticket.specs.declared.Answer.{Answer}
@@ -14,7 +14,6 @@ use Rattle.ticket.proofs.Laws.Scans.{after_first, after_second}
 use Rattle.challenge.specs.Rules.{list_reading, verdict, challenge_check}
 use Rattle.challenge.proofs.Laws.Lists.{well_formed_is}
 use Rattle.challenge.specs.Laws.Vectors.{ListReady}
-use Rattle.challenge.specs.Laws.Checks.{DecodeReady}
 
 module _ (G : Setting) (t x : List ℕ) {a : Answer} (a-is : a ≡ reading G t) where
   pub check_ticket : (a.number ≡ 0 → ⊥) → a ≡ challenge_check G t x

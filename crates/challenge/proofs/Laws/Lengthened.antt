@@ -5,7 +5,7 @@
 --   lengthened_entries   where v passes too, so does the lengthened list
 --   balanced_unread, product_unread   the rows do not read the number of vectors
 --   front_balanced, front_product   those of the vectors of x are as they were
-use Rattle.std.specs.Prelude.{ℕ, ◌+◌, ◌*◌, ◌<◌, ◌≡◌, cond, List, ◌++◌, eqb, length, get_or}
+use Rattle.std.specs.Prelude.{ℕ, ◌+◌, ◌*◌, ◌<◌, ◌≡◌, List, ◌++◌, length, get_or}
 use Rattle.std.proofs.Math.Decide.{dec_lt}
 use Rattle.std.proofs.Common.{arith, sym, ap, ◌∙◌, length-append, get_or-append-add}
 use Rattle.std.proofs.Math.Arith.{digits_lt}
@@ -13,7 +13,6 @@ use Rattle.std.proofs.Math.ListN.{get_or-append}
 use Rattle.residue.specs.Rules.{modulus}
 use Rattle.ticket.specs.declared.setting.Setting.{Setting}
 use Rattle.ticket.specs.declared.Answer.{Answer}
-use Rattle.ticket.specs.Rules.{refusal}
 use Rattle.ticket.proofs.Laws.First.{joined}
 use Rattle.ticket.specs.Laws.Vectors.{vectored}
 use Rattle.ticket.proofs.Laws.Vectors.{vectors_unread}

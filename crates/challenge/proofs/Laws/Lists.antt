@@ -17,7 +17,7 @@
 --   all_nonzero           a list of numbers from 1 to p - 1 passes
 --   ListAnswer G x a, list_answered   the condition of the answer a of these tests, no earlier one failing; it holds for the answer of the list
 --   list_place            its place is at most that of a number or vector past the last
-use Rattle.std.specs.Prelude.{ℕ, ◌+◌, ◌-◌, ◌*◌, ◌≤◌, ◌<◌, ◌≡◌, refl, Bool, true, ◌↔◌, List, length, get_or}
+use Rattle.std.specs.Prelude.{ℕ, ◌+◌, ◌-◌, ◌*◌, ◌≤◌, ◌<◌, ◌≡◌, refl, true, ◌↔◌, List, length, get_or}
 use Rattle.std.proofs.Math.Decide.{ℕ_discrete, dec_le}
 use native.Mathlib.Omega.{arith}
 use Rattle.std.proofs.Common.{sym, subst, ◌∙◌, ⊎_elim}
@@ -32,7 +32,7 @@ use Rattle.algebra.proofs.Laws.Fills.{part_of, part_long}
 use Rattle.algebra.proofs.Laws.Positions.{row_inside}
 use Rattle.ticket.specs.declared.setting.Setting.{Setting}
 use Rattle.ticket.specs.declared.Answer.{Answer}
-use Rattle.ticket.specs.Rules.{first, after, refusal, within, first_refusal}
+use Rattle.ticket.specs.Rules.{first, after, refusal, first_refusal}
 use Rattle.ticket.specs.Laws.All.{all}
 use Rattle.ticket.proofs.Laws.All.{all_at}
 use Rattle.ticket.proofs.Laws.Answers.{unless_zero, after_zero, scan_zero, first_past}

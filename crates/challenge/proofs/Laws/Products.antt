@@ -25,13 +25,12 @@ use Rattle.residue.proofs.Laws.Products.{product_below, HoldsSum, holds_more, ho
 use Rattle.residue.proofs.Laws.Residues.{residue_of_natural}
 use Rattle.residue.proofs.Laws.Sums.{sum_none, sum_more, sum_below}
 use Rattle.algebra.specs.Rules.{int_sum}
-use Rattle.algebra.specs.Laws.Fills.{Filled}
 use Rattle.algebra.proofs.Laws.IntegerSums.{int_sum_cong}
 use Rattle.algebra.proofs.Laws.Positions.{row_inside}
-use Rattle.ticket.specs.Rules.{most_inner, record_bytes, value_at}
+use Rattle.ticket.specs.Rules.{most_inner}
 use Rattle.challenge.specs.Laws.Shifts.{taken_off}
 use Rattle.challenge.proofs.Laws.Shifts.{shift_off, narrow_term}
-use Rattle.challenge.specs.Laws.Products.{terms, dot_of, offset_of, dot_with, WordVector, Widened, RecordsReady, DotReady, NarrowFactors, ProductReady, rows_times}
+use Rattle.challenge.specs.Laws.Products.{terms, dot_of, offset_of, dot_with, WordVector, RecordsReady, DotReady, NarrowFactors, ProductReady}
 
 pub dot_small : (bytes : List ℕ) (start : ℕ) (x : List ℕ) → dot_of bytes start x < modulus
 unfolding dot_of

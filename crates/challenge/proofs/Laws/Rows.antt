@@ -8,21 +8,19 @@
 --   bias_within               the bias is no wider than the vector
 --   row_sides                 each row is ready, those before it having passed
 --   row_step                  and its answer is that of its step
-use Rattle.std.specs.Prelude.{ℕ, ◌+◌, ◌*◌, ◌≤◌, ◌<◌, ◌^◌, ◌≡◌, refl, Bool, List, eqb, length, get_or, take}
+use Rattle.std.specs.Prelude.{ℕ, ◌+◌, ◌*◌, ◌≤◌, ◌<◌, ◌^◌, ◌≡◌, List, eqb, length, get_or, take}
 use Rattle.std.proofs.Common.{arith, sym, ap, ◌∙◌, eq-eqb, ne_eqb, get_or-take, length-take-le}
-use Rattle.residue.specs.Rules.{modulus}
 use Rattle.residue.proofs.Laws.Modulus.{modulus_below}
 use Rattle.algebra.specs.Laws.Fills.{line_at}
 use Rattle.algebra.proofs.Laws.Fills.{part_of, part_long}
 use Rattle.algebra.proofs.Laws.Positions.{row_inside}
 use Rattle.ticket.specs.declared.setting.Setting.{Setting}
 use Rattle.ticket.specs.declared.Answer.{Answer}
-use Rattle.ticket.specs.Rules.{unless, answer, record_bytes, bias_columns}
-use Rattle.ticket.specs.Laws.Limits.{lift}
-use Rattle.ticket.specs.Laws.Runs.{Steps, step_answer, RunTo}
-use Rattle.challenge.specs.Laws.Products.{rows_times, dot_with, offset_of, WordVector, RecordsReady, DotReady, NarrowFactors}
+use Rattle.ticket.specs.Rules.{unless, record_bytes, bias_columns}
+use Rattle.ticket.specs.Laws.Runs.{step_answer, RunTo}
+use Rattle.challenge.specs.Laws.Products.{dot_with, offset_of, WordVector}
 use Rattle.challenge.proofs.Laws.Products.{dot_small, offset_small}
-use Rattle.challenge.specs.Laws.Rows.{sides_equal, row_answer, bias_vector, row_agrees, row_cost, row_steps, VectorRowsReady, SidesReady}
+use Rattle.challenge.specs.Laws.Rows.{row_answer, row_cost, row_steps, VectorRowsReady, SidesReady}
 
 module _ (right : ℕ) (a u : List ℕ) {c d m added n : ℕ} (c-is : c ≡ m) (added_is : added ≡ n) (d-is : d ≡ dot_with (right + added) a u)
     (caught passed : Answer) where

@@ -19,11 +19,11 @@ use Rattle.residue.proofs.Laws.Residues.{residue_sum}
 use Rattle.residue.proofs.Laws.Sums.{sum_cong}
 use Rattle.algebra.specs.Rules.{int_sum}
 use Rattle.algebra.proofs.Laws.IntegerSums.{int_sum_none, int_sum_zero, residue_dot}
-use Rattle.algebra.specs.Laws.Fills.{Filled, line_at}
+use Rattle.algebra.specs.Laws.Fills.{Filled}
 use Rattle.algebra.proofs.Laws.Fills.{part_of}
 use Rattle.ticket.specs.declared.setting.Setting.{Setting}
 use Rattle.ticket.specs.Rules.{half_range, of_a, of_bias, of_quotients, of_remainders, bias_columns, entry_a, entry_bias, claim, has_bias}
-use Rattle.ticket.specs.Laws.Decodes.{ShiftedList, LiftedList, ShiftedEntries, LiftedClaims, LiftedRow, ShiftedRow}
+use Rattle.ticket.specs.Laws.Decodes.{ShiftedList, LiftedList}
 use Rattle.ticket.proofs.Laws.Decodes.{values_bias, entries_shifted, claims_lifted}
 use Rattle.ticket.specs.Laws.Layout.{part_bytes}
 use Rattle.ticket.specs.Laws.Limits.{clamped, lift}

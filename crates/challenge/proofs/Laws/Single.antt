@@ -44,7 +44,6 @@ use Rattle.ticket.specs.Laws.Layout.{part_bytes}
 use Rattle.ticket.proofs.Laws.Layout.{parts_are}
 use Rattle.ticket.specs.Laws.Limits.{clamped}
 use Rattle.ticket.proofs.Laws.Limits.{bias_columns_most, lift_made}
-use Rattle.ticket.specs.Laws.Passes.{Passed}
 use Rattle.ticket.proofs.Laws.Passes.{passed_of}
 use Rattle.challenge.specs.declared.single.RowAnswer.{RowAnswer}
 use Rattle.challenge.specs.Rules.{challenge_at, list_reading, testing, product_b, claim_side, operand_side_by, balanced_by, balanced, listed, product_at, balanced_at, row_made, no_row, row_there, row_check}
@@ -55,7 +54,6 @@ use Rattle.challenge.specs.Laws.Rows.{SidesReady, row_answer}
 use Rattle.challenge.proofs.Laws.Rows.{sides_ready}
 use Rattle.challenge.specs.Laws.Sides.{RoomFor, RowDecoded}
 use Rattle.challenge.proofs.Laws.Sides.{sides_balanced}
-use Rattle.challenge.specs.Laws.Vectors.{VectorThere}
 use Rattle.challenge.proofs.Laws.Vectors.{vector_numbers, vector_words, product_by}
 use Rattle.challenge.specs.Laws.Single.{RowReady, LineReady, DecodeRowReady}
 

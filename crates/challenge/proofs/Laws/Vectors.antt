@@ -10,7 +10,7 @@
 --   product_made             u holds that
 --   rows_ready               the rows are ready once y and u are filled
 --   vector_answered          the answer of the rows, by what they are decoded to, is that of the vector
-use Rattle.std.specs.Prelude.{ℕ, ◌+◌, ◌*◌, ◌%◌, ◌≤◌, ◌<◌, ◌^◌, ◌≡◌, refl, List, eqb, length, get_or}
+use Rattle.std.specs.Prelude.{ℕ, ◌+◌, ◌*◌, ◌%◌, ◌≤◌, ◌<◌, ◌≡◌, refl, List, length, get_or}
 use Rattle.std.proofs.Common.{mul-le-mul, sym, ap, ◌∙◌, ext_get_or}
 use native.Mathlib.Omega.{arith}
 use Rattle.residue.specs.Rules.{modulus, least_residue}
@@ -22,16 +22,15 @@ use Rattle.algebra.proofs.Laws.IntegerSums.{residue_dot}
 use Rattle.algebra.proofs.Laws.Positions.{row_inside}
 use Rattle.ticket.specs.declared.setting.Setting.{Setting}
 use Rattle.ticket.specs.declared.Answer.{Answer}
-use Rattle.ticket.specs.Rules.{most_rows, most_inner, most_columns, of_b, of_bias, answer, entry_b}
+use Rattle.ticket.specs.Rules.{most_rows, most_inner, most_columns, of_b, of_bias, entry_b}
 use Rattle.ticket.proofs.Laws.Decodes.{values_b, values_bias}
 use Rattle.ticket.specs.Laws.Layout.{part_bytes}
 use Rattle.ticket.specs.Laws.Limits.{clamped}
 use Rattle.ticket.proofs.Laws.Limits.{bias_columns_most}
 use Rattle.ticket.specs.Laws.Passes.{Passed}
-use Rattle.ticket.specs.Laws.Runs.{Steps, steps_answer, step_answer, RunTo}
+use Rattle.ticket.specs.Laws.Runs.{steps_answer, step_answer, RunTo}
 use Rattle.ticket.proofs.Laws.Scans.{scan_cong, scan_by_first}
-use Rattle.challenge.specs.Rules.{challenge_at, balanced, product_b, first_row, row_products, vector_products, caught, verdict}
-use Rattle.challenge.specs.Laws.Lists.{Entries}
+use Rattle.challenge.specs.Rules.{challenge_at, balanced, product_b, first_row, row_products, vector_products, verdict}
 use Rattle.challenge.specs.Laws.Products.{WordVector, Widened, ProductReady, rows_times, dot_of}
 use Rattle.challenge.proofs.Laws.Products.{dot_small}
 use Rattle.challenge.specs.Laws.Rows.{VectorRowsReady, row_steps}

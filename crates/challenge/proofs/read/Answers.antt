@@ -1,5 +1,4 @@
 use mathlib.Core.Path.{sym, ap, ◌∙◌}
-use borrow.Author.Rules.{rules}
 use Rattle.ticket.proofs.Laws.Passes.{passed_of}
 use Rattle.ticket.proofs.Laws.Scans.{after_first, after_second}
 use Rattle.challenge.proofs.read.Goals as goal

@@ -1,5 +1,4 @@
 use mathlib.Core.Path.{◌≡◌, sym, ap, ◌∙◌}
-use borrow.Author.Rules.{rules}
 use Rattle.ticket.specs.Rules.{refusal, setting_number}
 use Rattle.ticket.proofs.Laws.Limits.{number_by_lem, counts, limits_of, setting_holds}
 use Rattle.ticket.proofs.Laws.Scans.{after_first, after_second}
@@ -15,4 +14,4 @@ read_list-requires c = let numbered : c.number_of-number.result ≡ setting_numb
 
 pub returns : goal.returns
 returns c = let numbered : c.number_of-number.result ≡ setting_number c.args.setting = c.number_of-number.ensures ∙ number_by_lem _ c.half.ensures in
-        after_second (ap (λ n. refusal n 0) (numbered)) c.if-number-ne0.false c.read_list.ensures
+    after_second (ap (λ n. refusal n 0) (numbered)) c.if-number-ne0.false c.read_list.ensures

@@ -1,13 +1,9 @@
 -- The whole check: the tests of the ticket, then those of the list, then the rows.
 --
 --   DecodeReady G t n   the ticket passes, and n numbers are room for its entries of A and its claims
-use Rattle.std.specs.Prelude.{◌≡◌, List, ℕ, ◌+◌, ◌*◌, ◌≤◌}
+use Rattle.std.specs.Prelude.{List, ℕ, ◌+◌, ◌*◌, ◌≤◌}
 use Rattle.ticket.specs.declared.setting.Setting.{Setting}
-use Rattle.ticket.specs.declared.Answer.{Answer}
-use Rattle.ticket.specs.Rules.{reading, after}
 use Rattle.ticket.specs.Laws.Passes.{Passed}
-use Rattle.challenge.specs.Rules.{list_reading, verdict, challenge_check}
-use Rattle.challenge.specs.Laws.Vectors.{ListReady}
 
 pub record DecodeReady (G : Setting) (t : List ℕ) (room : ℕ) : Type 0 where
   pub passed : Passed G t

@@ -1,14 +1,10 @@
 -- A challenge list x with a vector v at its end. G is the setting of x, with s vectors.
 --
 --   placed_after G a      the answer a of the tests of a vector, which is a list of one, with its place counted on after a list of s vectors
-use Rattle.std.specs.Prelude.{ℕ, ◌+◌, ◌*◌, ◌<◌, ◌≡◌, cond, List, ◌++◌, eqb, length, get_or}
-use Rattle.residue.specs.Rules.{modulus}
+use Rattle.std.specs.Prelude.{◌+◌, ◌*◌, cond, eqb}
 use Rattle.ticket.specs.declared.setting.Setting.{Setting}
 use Rattle.ticket.specs.declared.Answer.{Answer}
 use Rattle.ticket.specs.Rules.{refusal}
-use Rattle.ticket.specs.Laws.Vectors.{vectored}
-use Rattle.challenge.specs.Rules.{challenge_at, list_reading, product_b, claim_side, operand_side_by, balanced_by, balanced}
-use Rattle.challenge.specs.Laws.Lists.{ZeroVector, Entries}
 
 abbrev pub placed_after : Setting → Answer → Answer
 placed_after G a =

@@ -3,14 +3,11 @@
 --   ZeroVector G x τ      every number of vector τ is 0
 --   nonzero_residue x k    number k is from 1 to p - 1
 --   Entries G x           x is a list of s · n least residues, and no vector of it is of zeros
-use Rattle.std.specs.Prelude.{ℕ, ◌+◌, ◌-◌, ◌*◌, ◌≤◌, ◌<◌, ◌≡◌, refl, Bool, true, ◌↔◌, List, length, get_or}
+use Rattle.std.specs.Prelude.{ℕ, ◌-◌, ◌*◌, ◌<◌, ◌≡◌, Bool, List, length, get_or}
 use Rattle.residue.specs.Rules.{modulus}
-use Rattle.algebra.specs.Laws.Fills.{line_at}
 use Rattle.ticket.specs.declared.setting.Setting.{Setting}
-use Rattle.ticket.specs.declared.Answer.{Answer}
-use Rattle.ticket.specs.Rules.{first, after, refusal, within, first_refusal}
-use Rattle.ticket.specs.Laws.All.{all}
-use Rattle.challenge.specs.Rules.{challenge_at, WellFormed, list_number, first_nonzero, vector_number, list_reading}
+use Rattle.ticket.specs.Rules.{within}
+use Rattle.challenge.specs.Rules.{challenge_at}
 
 abbrev pub ZeroVector : Setting → List ℕ → ℕ → Type 0
 ZeroVector G x τ = (j : ℕ) → j < G.columns → challenge_at G x τ j ≡ 0

@@ -10,9 +10,8 @@
 --   DotReady l x      so can the numbers of l
 --   ProductReady b m x   b has m rows of records for x
 --   rows_times b x k   row k of b times x
-use Rattle.std.specs.Prelude.{ℕ, ◌+◌, ◌-◌, ◌*◌, ◌%◌, ◌≤◌, ◌<◌, ◌^◌, ◌≡◌, List, ℤ, pos, ◌+ℤ◌, ◌*ℤ◌, length, get_or}
-use Rattle.residue.specs.Rules.{modulus, least_residue, sum, WithNumber}
-use Rattle.algebra.specs.Rules.{int_sum}
+use Rattle.std.specs.Prelude.{ℕ, ◌+◌, ◌*◌, ◌%◌, ◌≤◌, ◌<◌, ◌^◌, List, length, get_or}
+use Rattle.residue.specs.Rules.{modulus, sum}
 use Rattle.algebra.specs.Laws.Fills.{Filled}
 use Rattle.ticket.specs.Rules.{most_inner, record_bytes, value_at}
 use Rattle.challenge.specs.Laws.Shifts.{taken_off}

@@ -18,7 +18,7 @@ use Rattle.ticket.specs.declared.setting.Setting.{Setting}
 use Rattle.ticket.specs.declared.Answer.{Answer}
 use Rattle.ticket.specs.Rules.{unless, answer, record_bytes, bias_columns}
 use Rattle.ticket.specs.Laws.Limits.{lift}
-use Rattle.ticket.specs.Laws.Runs.{Steps, step_answer, RunTo}
+use Rattle.ticket.specs.Laws.Runs.{Steps}
 use Rattle.challenge.specs.Laws.Products.{rows_times, dot_with, offset_of, WordVector, RecordsReady, DotReady, NarrowFactors}
 
 abbrev pub sides_equal : ℕ → ℕ → List ℕ → List ℕ → List ℕ → List ℕ → Bool

@@ -2,9 +2,8 @@
 -- the shift s is taken off the sum modulo p. Numbers and p are any, but for those of the narrow law.
 --
 --   taken_off p s n x   what takes the shift off: the sum of x times the negative of s, modulo p
-use Rattle.std.specs.Prelude.{ℕ, ◌+◌, ◌-◌, ◌*◌, ◌/◌, ◌%◌, ◌^◌, ◌≤◌, ◌<◌, ◌≡◌, ℤ, pos, ◌+ℤ◌, ◌*ℤ◌}
-use Rattle.residue.specs.Rules.{least_residue, sum}
-use Rattle.algebra.specs.Rules.{int_sum}
+use Rattle.std.specs.Prelude.{ℕ, ◌-◌, ◌*◌, ◌%◌}
+use Rattle.residue.specs.Rules.{sum}
 
 unfoldable pub taken_off : ℕ → ℕ → ℕ → (ℕ → ℕ) → ℕ
 taken_off p s n x = (p - s) * (sum n x % p)

@@ -1,19 +1,11 @@
 -- The two sides of a row by the lists that the ticket is decoded to. x is a challenge list, y a vector of it, u its product with B.
 --
 --   RoomFor G y u      y and u have as many numbers as a vector and its product with B
-use Rattle.std.specs.Prelude.{ℕ, ◌+◌, ◌-◌, ◌*◌, ◌%◌, ◌≤◌, ◌<◌, ◌≡◌, List, ◌++◌, pos, ◌*ℤ◌, length, get_or, take, drop}
-use Rattle.residue.specs.Rules.{modulus, least_residue}
-use Rattle.algebra.specs.Rules.{int_sum}
-use Rattle.algebra.specs.Laws.Fills.{Filled, line_at}
+use Rattle.std.specs.Prelude.{ℕ, ◌≤◌, ◌≡◌, List, length}
+use Rattle.residue.specs.Rules.{modulus}
 use Rattle.ticket.specs.declared.setting.Setting.{Setting}
-use Rattle.ticket.specs.Rules.{half_range, of_a, of_bias, of_quotients, of_remainders, bias_columns, entry_a, entry_bias, claim, has_bias}
-use Rattle.ticket.specs.Laws.Decodes.{ShiftedList, LiftedList, ShiftedEntries, LiftedClaims, LiftedRow, ShiftedRow}
-use Rattle.ticket.specs.Laws.Layout.{part_bytes}
-use Rattle.ticket.specs.Laws.Limits.{clamped, lift}
-use Rattle.ticket.specs.Laws.Passes.{Passed}
-use Rattle.challenge.specs.Rules.{challenge_at, balanced, balanced_by, claim_side, operand_side_by, product_b}
-use Rattle.challenge.specs.Laws.Products.{dot_of, rows_times, dot_with, offset_of}
-use Rattle.challenge.specs.Laws.Rows.{bias_vector, sides_equal, row_agrees}
+use Rattle.ticket.specs.Laws.Decodes.{ShiftedEntries, LiftedClaims, LiftedRow, ShiftedRow}
+use Rattle.ticket.specs.Laws.Limits.{lift}
 
 pub record RoomFor (G : Setting) (y u : List ℕ) : Type 0 where
   pub columns : length y ≡ G.columns

@@ -5,22 +5,14 @@
 --   vector_steps G t x        the vectors one after the other
 --   VectorThere G t x τ      vector τ is one of the list
 --   VectorReady G t x τ q    it can be worked through after q products
-use Rattle.std.specs.Prelude.{ℕ, ◌+◌, ◌*◌, ◌%◌, ◌≤◌, ◌<◌, ◌^◌, ◌≡◌, refl, List, eqb, length, get_or}
+use Rattle.std.specs.Prelude.{ℕ, ◌+◌, ◌*◌, ◌<◌, ◌^◌, ◌≡◌, refl, List, eqb}
 use Rattle.std.proofs.Math.Nat.{suc-ne-zero}
-use Rattle.residue.specs.Rules.{modulus, least_residue}
-use Rattle.algebra.specs.Laws.Fills.{Filled, line_at}
 use Rattle.ticket.specs.declared.setting.Setting.{Setting}
-use Rattle.ticket.specs.declared.Answer.{Answer}
-use Rattle.ticket.specs.Rules.{most_rows, most_inner, most_columns, of_b, of_bias, answer, entry_b}
-use Rattle.ticket.specs.Laws.Layout.{part_bytes}
-use Rattle.ticket.specs.Laws.Limits.{clamped}
+use Rattle.ticket.specs.Rules.{answer}
 use Rattle.ticket.specs.Laws.Passes.{Passed}
-use Rattle.ticket.specs.Laws.Runs.{Steps, steps_answer, step_answer, RunTo}
-use Rattle.challenge.specs.Rules.{challenge_at, balanced, product_b, first_row, row_products, vector_products, caught, verdict}
+use Rattle.ticket.specs.Laws.Runs.{Steps}
+use Rattle.challenge.specs.Rules.{first_row, vector_products, caught}
 use Rattle.challenge.specs.Laws.Lists.{Entries}
-use Rattle.challenge.specs.Laws.Products.{WordVector, Widened, ProductReady, rows_times, dot_of}
-use Rattle.challenge.specs.Laws.Rows.{VectorRowsReady, row_steps}
-use Rattle.challenge.specs.Laws.Sides.{RoomFor, DecodedTo}
 
 pub record ListReady (G : Setting) (t x : List ℕ) : Type 0 where
   pub passed : Passed G t

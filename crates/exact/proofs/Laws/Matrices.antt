@@ -5,7 +5,7 @@
 --   row_sums_ended         it is so after the last sum, or before the first column that C has not whole
 --   sums_exact             the product of a row and a column, as lines of two lists, is an entry of the product of matrices, modulo 2^32
 --   row_sums_exact         and so is a sum of the row with columns
-use Rattle.std.specs.Prelude.{◌≡◌, ℕ, zero, suc, ◌+◌, ◌-◌, ◌*◌, ◌/◌, ◌%◌, ◌^◌, ◌<◌, ◌≤◌, ◌⊎◌, List, length, get_or, ℤ, pos, slice_index, slice_index_or, slice_set, refl}
+use Rattle.std.specs.Prelude.{◌≡◌, ℕ, zero, suc, ◌+◌, ◌*◌, ◌/◌, ◌%◌, ◌^◌, ◌<◌, ◌≤◌, ◌⊎◌, List, length, get_or, ℤ, pos, slice_index, slice_index_or, slice_set, refl}
 use Rattle.std.proofs.Common.{zero-mul, mul-le-mul_right, div-add-mod', div-lt_iff_lt-mul, mod-lt, arith, sym, ap, ◌∙◌, inl, inr, ⊎_elim, length-set, get_or-set_same, get_or-set_other}
 use Rattle.std.proofs.Math.Decide.{dec_lt, ℕ_discrete}
 use Rattle.std.proofs.Math.Arith.{digits_div, digits_mod, digits_lt}

@@ -1,7 +1,6 @@
 -- The loop keeps the sum of the first k products, a whole number of rows.
-use Rattle.std.proofs.Common.{◌≡◌, ◌-◌, ◌%◌, ◌≤◌, refl, arith}
+use Rattle.std.proofs.Common.{◌≡◌, ◌-◌, ◌%◌, ◌≤◌}
 use Rattle.exact.specs.Laws.Products.{Summed}
-use Rattle.exact.proofs.Laws.Products.{summed_none, summed_joined}
 use Rattle.exact.proofs.block.Given as goal
 
 abbrev pub invariant-loop-k : goal.invariant-loop-k

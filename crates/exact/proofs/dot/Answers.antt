@@ -1,6 +1,5 @@
-use Rattle.std.proofs.Common.{◌-◌, ◌≤◌, length, refl, arith, rules}
+use Rattle.std.proofs.Common.{refl, arith}
 use native.Mathlib.Nat.{min-le_left, min-le_right}
-use Rattle.exact.specs.Laws.Products.{Summed}
 use Rattle.exact.proofs.Laws.Products.{summed_none, summed_joined, summed_all}
 use Rattle.exact.proofs.dot.Goals as goal
 

@@ -1,8 +1,6 @@
 -- The loop keeps the sum of the first k products, of the count that there are in the shorter list.
-use Rattle.std.proofs.Common.{◌-◌, ◌≤◌, length, refl, arith, rules}
-use native.Mathlib.Nat.{min-le_left, min-le_right}
+use Rattle.std.proofs.Common.{◌-◌, ◌≤◌, length}
 use Rattle.exact.specs.Laws.Products.{Summed}
-use Rattle.exact.proofs.Laws.Products.{summed_none, summed_joined, summed_all}
 use Rattle.exact.proofs.dot.Given as goal
 
 abbrev pub invariant-loop-k : goal.invariant-loop-k

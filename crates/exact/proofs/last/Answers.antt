@@ -1,4 +1,4 @@
-use Rattle.std.proofs.Common.{refl, arith, rules}
+use Rattle.std.proofs.Common.{refl, arith}
 use Rattle.exact.proofs.Laws.Products.{summed_joined}
 use Rattle.exact.proofs.last.Goals as goal
 

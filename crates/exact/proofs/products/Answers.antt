@@ -1,7 +1,5 @@
-use Rattle.std.proofs.Common.{◌≡◌, ◌-◌, ◌≤◌, ◌∙◌, arith, rules}
-use Rattle.residue.proofs.Laws.Signed.{widened}
-use Rattle.exact.specs.Laws.Products.{Summed}
-use Rattle.exact.proofs.Laws.Products.{product_fits, product_residue, summed_none, summed_more}
+use Rattle.std.proofs.Common.{◌∙◌, arith}
+use Rattle.exact.proofs.Laws.Products.{product_residue, summed_none, summed_more}
 use Rattle.exact.proofs.products.Goals as goal
 
 pub loop-k-init : goal.loop-k-init

@@ -1,8 +1,6 @@
 -- The loop keeps the sum of the first k products, of the count that there are.
-use Rattle.std.proofs.Common.{◌≡◌, ◌-◌, ◌≤◌, ◌∙◌, arith, rules}
-use Rattle.residue.proofs.Laws.Signed.{widened}
+use Rattle.std.proofs.Common.{◌-◌, ◌≤◌}
 use Rattle.exact.specs.Laws.Products.{Summed}
-use Rattle.exact.proofs.Laws.Products.{product_fits, product_residue, summed_none, summed_more}
 use Rattle.exact.proofs.products.Given as goal
 
 abbrev pub invariant-loop-k : goal.invariant-loop-k

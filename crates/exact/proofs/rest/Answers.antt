@@ -1,5 +1,4 @@
-use Rattle.std.proofs.Common.{◌-◌, ◌≤◌, refl, arith}
-use Rattle.exact.specs.Laws.Products.{Summed}
+use Rattle.std.proofs.Common.{refl, arith}
 use Rattle.exact.proofs.Laws.Products.{summed_none, summed_joined}
 use Rattle.exact.proofs.rest.Goals as goal
 

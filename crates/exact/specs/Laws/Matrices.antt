@@ -6,9 +6,7 @@
 --   TurnedTo M h w n b l   l is the list b with the first n numbers of the matrix, row by row, at their places in the turned one
 --   TurnedFurther M h w m n b l   where the list b has the first m numbers at their places, l is b with the first n: what a row does
 --   RowSums r C b s        s is the list b with the products of the row r with the columns in C at its beginning
-use Rattle.std.specs.Prelude.{◌≡◌, ℕ, zero, suc, ◌+◌, ◌-◌, ◌*◌, ◌/◌, ◌%◌, ◌^◌, ◌<◌, ◌≤◌, ◌⊎◌, List, length, get_or, ℤ, pos, slice_index, slice_index_or, slice_set, refl}
-use Rattle.residue.specs.Rules.{least_residue}
-use Rattle.algebra.specs.Rules.{matrix_product}
+use Rattle.std.specs.Prelude.{◌≡◌, ℕ, ◌+◌, ◌*◌, ◌/◌, ◌%◌, ◌<◌, ◌≤◌, ◌⊎◌, List, length, ℤ, pos, slice_index, slice_index_or}
 use Rattle.algebra.specs.Laws.Fills.{Filled, line_at}
 use Rattle.exact.specs.Rules.{dot_product}
 

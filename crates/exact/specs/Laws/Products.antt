@@ -1,12 +1,9 @@
 -- A sum of products, as the code reads its numbers and adds it up.
 --
 --   Summed x y s a n r   r is the number s with n products added, from number a of both lists on, modulo 2^32
-use Rattle.std.specs.Prelude.{◌≡◌, ℕ, suc, ◌+◌, ◌*◌, ◌%◌, ◌^◌, ◌<◌, ◌≤◌, min, List, length, ℤ, pos, negsuc, ◌+ℤ◌, ◌*ℤ◌, slice_index_or, unsigned_abs}
-use Rattle.std.specs.Int.Signed.{mag}
-use Rattle.std.specs.Int.{w16, w32}
+use Rattle.std.specs.Prelude.{◌≡◌, ℕ, ◌+◌, ◌^◌, List, ℤ, pos, ◌+ℤ◌, ◌*ℤ◌, slice_index_or}
 use Rattle.residue.specs.Rules.{least_residue}
 use Rattle.algebra.specs.Rules.{int_sum}
-use Rattle.exact.specs.Rules.{product_sum, dot_product}
 
 -- product k of the two lists
 abbrev pub term : List ℤ → List ℤ → ℕ → ℤ

@@ -2,14 +2,13 @@
 --
 --   read_long        the first n words are n
 --   numbers_read     the first n words, where the file has the bytes of n numbers, are its numbers
-use Rattle.std.specs.Prelude.{ℕ, zero, suc, ◌+◌, ◌*◌, ◌≤◌, ◌<◌, ◌↔◌, ◌≡◌, List, [], ◌∷◌, length, get_or, take, drop}
+use Rattle.std.specs.Prelude.{ℕ, zero, suc, ◌+◌, ◌*◌, ◌≤◌, ◌<◌, ◌≡◌, List, [], ◌∷◌, length, get_or, take, drop}
 use Rattle.std.proofs.Common.{arith, sym, ◌∙◌, get_or-take, get_or-drop, ext_get_or}
 use Rattle.std.proofs.Math.Path.{refl, ap}
-use Rattle.ticket.specs.Rules.{most_columns, most_vectors}
 use Rattle.files.specs.Rules.{number_bytes, word_at, numbers_of}
 use Rattle.files.specs.Laws.Prefixes.{Leads}
 use Rattle.files.proofs.Laws.Prefixes.{leads}
-use Rattle.files.specs.Laws.Numbers.{most_numbers, Counted, ChallengeWords}
+use Rattle.files.specs.Laws.Numbers.{most_numbers, ChallengeWords}
 
 -- four bytes further on
 later_word : (c : List ℕ) (i : ℕ) → word_at (drop number_bytes c) i ≡ word_at c (number_bytes + i)

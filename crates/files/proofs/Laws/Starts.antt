@@ -5,7 +5,7 @@
 --   start_decides       the check of the beginnings is that of the files
 --   read_begins         so it is where the file's first bytes are put at the beginning of a buffer
 --   read_decides        the check of what was read into buffers is that of the files
-use Rattle.std.specs.Prelude.{ℕ, ◌+◌, ◌*◌, ◌<◌, min, ◌≡◌, false, List, ◌++◌, length, take, drop}
+use Rattle.std.specs.Prelude.{ℕ, ◌*◌, ◌<◌, min, ◌≡◌, false, List, ◌++◌, length, take, drop}
 use Rattle.std.proofs.Math.Decide.{ℕ_discrete}
 use Rattle.std.proofs.Common.{arith, ⊎_elim, sym, ap, ◌∙◌, ne_eqb, length-append, length-take, length-drop, take_at}
 use Rattle.ticket.specs.declared.setting.Setting.{Setting}
@@ -21,11 +21,9 @@ use Rattle.ticket.proofs.Laws.Answers.{after_zero}
 use Rattle.ticket.proofs.Laws.Passes.{passed_of}
 use Rattle.ticket.proofs.Laws.Scans.{after_passed, after_refused}
 use Rattle.files.specs.Rules.{setting_bytes, number_bytes, setting_of, file_check}
-use Rattle.files.specs.Laws.Prefixes.{Leads}
 use Rattle.files.proofs.Laws.Prefixes.{by_start}
-use Rattle.files.specs.Laws.Numbers.{most_numbers}
 use Rattle.files.proofs.Laws.Checks.{setting_file_refused, after_setting}
-use Rattle.files.specs.Laws.Starts.{longest_challenge, Begins, BufferRoom, BuffersRoom, AnswerFor}
+use Rattle.files.specs.Laws.Starts.{longest_challenge, Begins, BuffersRoom, AnswerFor}
 
 pub long_ticket : (G : Setting) (t : List ℕ) → has_bias G ≡ false → longest_ticket < length t → reading G t ≡ after (refusal (setting_number G) 0) (refusal 4 0)
 long_ticket G t none l =

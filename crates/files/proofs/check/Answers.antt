@@ -1,6 +1,4 @@
-use borrow.Author.Rules.{rules}
 use Rattle.files.proofs.Laws.Checks.{setting_file_refused, list_checked}
-use Rattle.files.proofs.Laws.Numbers.{read_long}
 use Rattle.files.proofs.check.Goals as goal
 
 pub returns-then-setting-ne-SETTING_BYTES : goal.returns-then-setting-ne-SETTING_BYTES

@@ -2,10 +2,7 @@
 --
 --   Put b k x r a    an output that held b holds a: from the place k on the text x, up to the place r, and elsewhere what it held
 --   longest_field     the most bytes of a number of 32 bits and the byte after it
-use Rattle.std.specs.Prelude.{ℕ, ◌+◌, ◌/◌, ◌%◌, ◌^◌, ◌≤◌, ◌<◌, ◌≡◌, List, [], ◌∷◌, ◌++◌, length, take, drop, set}
-use Rattle.ticket.specs.declared.Answer.{Answer}
-use Rattle.files.specs.Rules.{digit, space, line_feed, decimal, field, line_of}
-use Rattle.files.specs.Laws.Prefixes.{Leads}
+use Rattle.std.specs.Prelude.{ℕ, ◌+◌, ◌≤◌, ◌≡◌, List, ◌++◌, length, take, drop}
 
 pub record Put (before : List ℕ) (at : ℕ) (text : List ℕ) (next : ℕ) (after : List ℕ) : Type 0 where
   pub place : next ≡ at + length text

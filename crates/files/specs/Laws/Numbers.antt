@@ -3,10 +3,9 @@
 --   most_numbers      the most numbers that a list has
 --   Counted b n      n is k exactly when b bytes are those of k numbers, for each k up to most_numbers; it is at most one more
 --   ChallengeWords c l   l is the words of c, one more than any list has numbers, zeros past its end
-use Rattle.std.specs.Prelude.{ℕ, zero, suc, ◌+◌, ◌*◌, ◌≤◌, ◌<◌, ◌↔◌, ◌≡◌, List, [], ◌∷◌, length, get_or, take, drop}
+use Rattle.std.specs.Prelude.{ℕ, ◌+◌, ◌*◌, ◌≤◌, ◌<◌, ◌↔◌, ◌≡◌, List, length, get_or}
 use Rattle.ticket.specs.Rules.{most_columns, most_vectors}
-use Rattle.files.specs.Rules.{number_bytes, word_at, numbers_of}
-use Rattle.files.specs.Laws.Prefixes.{Leads}
+use Rattle.files.specs.Rules.{number_bytes, word_at}
 
 abbrev pub most_numbers : ℕ
 most_numbers = most_vectors * most_columns

@@ -6,12 +6,10 @@
 --   BufferRoom m b n    the buffer b has room for more than m bytes, and for n
 --   BuffersRoom ..      so have the three buffers, for more bytes than any setting asks for
 --   AnswerFor .. a      a is the answer for all files that begin as the buffers do
-use Rattle.std.specs.Prelude.{ℕ, ◌+◌, ◌*◌, ◌<◌, min, ◌≡◌, false, List, ◌++◌, length, take, drop}
-use Rattle.ticket.specs.declared.setting.Setting.{Setting}
+use Rattle.std.specs.Prelude.{ℕ, ◌*◌, ◌<◌, ◌≡◌, List, length, take}
 use Rattle.ticket.specs.declared.Answer.{Answer}
-use Rattle.ticket.specs.Rules.{refusal, after, setting_tests, setting_number, reading, has_bias}
 use Rattle.ticket.specs.Laws.Layout.{longest_ticket}
-use Rattle.files.specs.Rules.{setting_bytes, number_bytes, setting_of, file_check}
+use Rattle.files.specs.Rules.{setting_bytes, number_bytes, file_check}
 use Rattle.files.specs.Laws.Prefixes.{Leads}
 use Rattle.files.specs.Laws.Numbers.{most_numbers}
 

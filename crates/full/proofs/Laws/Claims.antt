@@ -38,7 +38,7 @@ use Rattle.ticket.specs.Laws.Passes.{Passed}
 use Rattle.ticket.proofs.Laws.Passes.{passed_of}
 use Rattle.ticket.specs.Laws.Runs.{steps_answer}
 use Rattle.ticket.proofs.Laws.Scans.{after_passed, after_refused, scan_cong}
-use Rattle.full.specs.Rules.{same, holds, untrue, full_verdict, full_check}
+use Rattle.full.specs.Rules.{holds, untrue, full_verdict, full_check}
 use Rattle.full.proofs.Laws.Same.{same_equal, same_other}
 use Rattle.full.specs.Laws.Sums.{line_sum, sum_steps, SumsReady}
 use Rattle.full.specs.Laws.Claims.{Space}

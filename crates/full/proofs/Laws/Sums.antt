@@ -3,21 +3,19 @@
 --   sum_row_ready         so it is for each row, where it is so for all
 --   few_agree             no more sums than that agree with their claims
 --   row_untrue, row_true  the answer of the row, by how many agree up to the first that does not
-use Rattle.std.specs.Prelude.{◌≡◌, ℕ, ◌+◌, ◌*◌, ◌/◌, ◌%◌, ◌^◌, ◌<◌, ◌≤◌, Bool, List, length, ℤ, ◌==◌, slice_index, slice_index_or, refl}
+use Rattle.std.specs.Prelude.{◌≡◌, ℕ, ◌+◌, ◌*◌, ◌<◌, ◌≤◌, List, length, ℤ, slice_index_or}
 use Rattle.std.proofs.Common.{mul-le-mul_left, arith, ap, ◌∙◌}
 use Rattle.std.proofs.Math.Arith.{digits_div, digits_mod}
 use Rattle.algebra.specs.Laws.Fills.{line_at}
 use Rattle.algebra.proofs.Laws.Fills.{part_of, part_long}
 use Rattle.algebra.proofs.Laws.Positions.{row_inside}
-use Rattle.exact.specs.Rules.{dot_product}
 use Rattle.exact.specs.Laws.Matrices.{RowSums}
 use Rattle.ticket.specs.declared.setting.Setting.{Setting}
 use Rattle.ticket.specs.declared.Answer.{Answer}
 use Rattle.ticket.specs.Rules.{first, answer}
 use Rattle.ticket.proofs.Laws.First.{first_within}
-use Rattle.ticket.specs.Laws.Limits.{Within, lift}
 use Rattle.ticket.proofs.Laws.Limits.{counts}
-use Rattle.ticket.specs.Laws.Runs.{Steps, RunTo, RunPast}
+use Rattle.ticket.specs.Laws.Runs.{RunTo}
 use Rattle.ticket.proofs.Laws.Runs.{run_several, run_breaks}
 use Rattle.full.specs.Laws.Sums.{claimed_for, line_sum, sum_steps, SumsReady, SumRowReady, RowCompared}
 

@@ -1,4 +1,3 @@
-use Rattle.std.proofs.Common.{rules}
 use Rattle.full.proofs.Laws.Claims.{check_refused, check_passed, check_compared}
 use Rattle.full.proofs.check.Goals as goal
 

@@ -6,14 +6,13 @@
 --   SumsReady G A B y n l   these are as long as the setting needs them, n is the length of a row of sums, and l is the lift
 --   SumRowReady G A B y n l i a   so it is for row i, a is the answer of the rows before, and no number of the row is large
 --   RowCompared G A B y i a   a is the answer of the rows up to row i where they agree, else that of all rows
-use Rattle.std.specs.Prelude.{◌≡◌, ℕ, ◌+◌, ◌*◌, ◌/◌, ◌%◌, ◌^◌, ◌<◌, ◌≤◌, Bool, List, length, ℤ, ◌==◌, slice_index, slice_index_or, refl}
+use Rattle.std.specs.Prelude.{◌≡◌, ℕ, ◌+◌, ◌*◌, ◌/◌, ◌%◌, ◌^◌, ◌<◌, ◌≤◌, Bool, List, length, ℤ, ◌==◌, slice_index, refl}
 use Rattle.std.proofs.Math.Nat.{suc-ne-zero}
 use Rattle.algebra.specs.Laws.Fills.{line_at}
 use Rattle.exact.specs.Rules.{dot_product}
-use Rattle.exact.specs.Laws.Matrices.{RowSums}
 use Rattle.ticket.specs.declared.setting.Setting.{Setting}
 use Rattle.ticket.specs.declared.Answer.{Answer}
-use Rattle.ticket.specs.Rules.{first, answer}
+use Rattle.ticket.specs.Rules.{answer}
 use Rattle.ticket.specs.Laws.Limits.{Within, lift}
 use Rattle.ticket.specs.Laws.Runs.{Steps, RunTo, RunPast}
 

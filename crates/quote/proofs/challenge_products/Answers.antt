@@ -1,7 +1,6 @@
 use native.Mathlib.Nat.{mul-le-mul}
 use native.Mathlib.Omega.{arith}
 use Prim.Native.Nat.{◌+◌, ◌*◌, ◌≤◌}
-use borrow.Author.Rules.{rules}
 use Rattle.ticket.specs.Rules.{most_inner, most_columns, most_rows, most_vectors}
 use Rattle.ticket.specs.Laws.Limits.{Counts}
 use Rattle.ticket.proofs.Laws.Limits.{counts, bias_columns_most}

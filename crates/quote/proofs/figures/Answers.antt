@@ -1,5 +1,4 @@
 use native.Mathlib.Omega.{arith}
-use borrow.Author.Rules.{rules}
 use mathlib.Core.Path.{◌≡◌, ap}
 use Rattle.ticket.specs.Rules.{ticket_length}
 use Rattle.ticket.proofs.Laws.Layout.{length_most}

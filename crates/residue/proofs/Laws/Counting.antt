@@ -16,7 +16,7 @@
 --   listed f c        the first c things that f gives, in order
 --   length_listed, get_or_listed   they are c, and f n stands at place n
 --   exactly_members   some list of different things that all have P is c long
-use Rattle.std.specs.Prelude.{◌≡◌, ℕ, zero, suc, ◌+◌, ◌-◌, ◌*◌, ◌/◌, ◌%◌, ◌^◌, ◌<◌, ◌≤◌, min, List, [], ◌∷◌, length, get_or, ◌≢◌, slice_index_or}
+use Rattle.std.specs.Prelude.{◌≡◌, ℕ, zero, suc, ◌+◌, ◌-◌, ◌*◌, ◌/◌, ◌%◌, ◌^◌, ◌<◌, ◌≤◌, min, List, [], ◌∷◌, length, ◌≢◌, slice_index_or}
 use Rattle.std.proofs.Math.Nat.{pow-zero, pow-suc, div-add-mod'}
 use Rattle.std.proofs.Common.{mod-lt, div-lt_iff_lt-mul, arith, sym, ◌∙◌, subst}
 use Rattle.std.proofs.Math.Arith.{digits_lt, digits_div, digits_mod}

@@ -15,7 +15,7 @@
 --   residue_of_entry       the signed entry's least residue is the residue
 --   entry_of_residue       the least residue of a number from -(p - 1)/2 to (p - 1)/2 stands for that number
 --   entry_small            a signed entry is from -(p - 1)/2 to (p - 1)/2, where p is odd
-use Rattle.std.specs.Prelude.{◌≡◌, ℕ, suc, ◌+◌, ◌-◌, ◌*◌, ◌/◌, ◌%◌, ◌<◌, ◌≤◌, ◌⊎◌, ◌↔◌, ℤ, pos, negsuc, ◌+ℤ◌, ◌-ℤ◌, ◌*ℤ◌, unsigned_abs}
+use Rattle.std.specs.Prelude.{◌≡◌, ℕ, suc, ◌+◌, ◌-◌, ◌*◌, ◌/◌, ◌%◌, ◌<◌, ◌≤◌, ◌↔◌, ℤ, pos, negsuc, ◌+ℤ◌, ◌-ℤ◌, ◌*ℤ◌, unsigned_abs}
 use Rattle.std.proofs.Common.{suc-mul, eq-zero-or-pos, lt_of_not-le, arith, sym, ◌∙◌, ⊎_elim, le-leb}
 use Rattle.std.proofs.Math.Nat.{mod-lt, mod-eq_of_lt, mod_self, div-add-mod, zero-mod}
 use Rattle.std.proofs.Math.Decide.{dec_le}

@@ -35,7 +35,6 @@ use Rattle.challenge.specs.declared.single.RowAnswer.{RowAnswer}
 use Rattle.challenge.specs.Rules.{WellFormed, list_reading, listed, row_check}
 use Rattle.challenge.specs.Laws.Lengthened.{placed_after}
 use Rattle.challenge.proofs.Laws.Lengthened.{lengthened_reading}
-use Rattle.challenge.specs.Laws.Lists.{Entries}
 use Rattle.challenge.proofs.Laws.Lists.{well_formed_is, list_place}
 use Rattle.challenge.proofs.Laws.Single.{listed_long, listed_at, filled_listed}
 use Rattle.run.specs.declared.Run.{Run}

@@ -6,32 +6,28 @@
 --   kept_begun         it holds of a run that begins
 --   kept_worked        it holds after a row
 --   kept_lengthened    and after an addition
-use Rattle.std.specs.Prelude.{ℕ, ◌+◌, ◌-◌, ◌*◌, ◌%◌, ◌≤◌, ◌<◌, ◌≡◌, refl, Bool, true, false, cond, ◌⊎◌, leb, ltb, eqb, get_or, take, replicate}
-use Rattle.std.proofs.Math.Decide.{ℕ_discrete, dec_le, dec_lt}
-use Rattle.std.proofs.Common.{mod-eq_of_lt, arith, sym, ◌∙◌, inl, inr, ⊎_elim, below_more, eq-eqb, ne_eqb, le-leb, lt-ltb, le-ltb, ltb-true, ltb-false, length-drop, length-take-le, take_at}
+use Rattle.std.specs.Prelude.{ℕ, ◌+◌, ◌-◌, ◌≤◌, ◌<◌, ◌≡◌, refl, true, false, ◌⊎◌, ltb, get_or, take, replicate}
+use Rattle.std.proofs.Math.Decide.{dec_lt}
+use Rattle.std.proofs.Common.{arith, sym, ◌∙◌, inl, inr, below_more, le-leb, length-drop, length-take-le, take_at}
 use Rattle.std.proofs.Math.Path.{ap}
 use Rattle.std.proofs.Math.Bool.{true≢false}
 use mathlib.Core.List.{List, ◌++◌, append_assoc}
 use Rattle.std.proofs.Math.ListN.{length, drop, length-append}
-use Rattle.std.proofs.lemmas.List.{length-replicate, take-append-le}
+use Rattle.std.proofs.lemmas.List.{length-replicate}
 use Rattle.std.proofs.Math.Seq.{take-append_seam}
-use Rattle.residue.specs.Rules.{modulus}
 use Rattle.ticket.specs.declared.published.PlainSetting.{PlainSetting}
 use Rattle.ticket.specs.declared.setting.Setting.{Setting}
-use Rattle.ticket.specs.Rules.{Passes, most_inner, plain}
-use Rattle.ticket.proofs.Laws.First.{true_or_false}
-use Rattle.ticket.specs.Laws.Limits.{Sizes}
-use Rattle.ticket.proofs.Laws.Passes.{passed_of, passes_of}
-use Rattle.ticket.specs.Laws.Vectors.{vectored}
+use Rattle.ticket.specs.Rules.{Passes, plain}
+use Rattle.ticket.proofs.Laws.Passes.{passes_of}
 use Rattle.ticket.proofs.Laws.Vectors.{vectored_passes}
-use Rattle.challenge.specs.Rules.{testing, product_b, balanced, balanced_by, product_at, balanced_at, listed}
+use Rattle.challenge.specs.Rules.{testing, product_b, balanced, product_at, balanced_at}
 use Rattle.challenge.proofs.Laws.Lengthened.{front_product, front_balanced}
 use Rattle.challenge.specs.Laws.Lists.{Entries}
 use Rattle.challenge.proofs.Laws.Single.{product_kept, balanced_kept}
 use Rattle.run.specs.declared.Run.{Run}
 use Rattle.run.specs.Rules.{layer, most_numbers, held_list, is_past, is_caught, is_finished, begun, placed, one_more, lengthened}
 use Rattle.run.specs.Laws.Additions.{Additional}
-use Rattle.run.proofs.Laws.Additions.{held_long, vector_long, vectors_few, unfinished_open, addition_fits}
+use Rattle.run.proofs.Laws.Additions.{held_long, vectors_few, unfinished_open, addition_fits}
 use Rattle.run.proofs.Laws.States.{unfinished, not_past, testing_passed, Worked, stopped, on_row, on_vector}
 
 abbrev pub Place : Run → Type 0

@@ -13,7 +13,7 @@
 --   run_under_way      while a run is under way its numbers are those of the rows done, all of which are balanced (S3)
 --   complete_number    a run that ends complete has the number 0
 --   run_stops          after as many steps as the rows of the final list's vectors the run is caught or complete (S4)
-use Rattle.std.specs.Prelude.{ℕ, ◌+◌, ◌*◌, ◌≤◌, ◌<◌, ◌≡◌, refl, Bool, true, false, cond, ◌||◌, List, [], ◌∷◌, ◌++◌, ◌⊎◌, eqb, length}
+use Rattle.std.specs.Prelude.{ℕ, ◌+◌, ◌*◌, ◌≤◌, ◌<◌, ◌≡◌, refl, Bool, true, false, cond, ◌||◌, List, [], ◌∷◌, ◌++◌, ◌⊎◌, eqb}
 use Rattle.std.proofs.Math.Decide.{ℕ_discrete}
 use Rattle.std.proofs.Common.{arith, sym, ap, ◌∙◌, true≢false, append_assoc, append-nil, inl, inr}
 use Rattle.std.proofs.Math.Logic.{⊎_elim}
@@ -29,7 +29,7 @@ use Rattle.challenge.proofs.Laws.Lists.{well_formed_is}
 use Rattle.soundness.proofs.Laws.Answers.{accepted_exactly, caught_exactly}
 use Rattle.run.specs.declared.Run.{Run}
 use Rattle.run.specs.declared.RunAnswer.{RunAnswer}
-use Rattle.run.specs.Rules.{layer, held_list, is_past, is_caught, is_finished, products_done, under_way, caught_mark, complete, refused, marked, standing, tested, zeros, begun, beginning, worked, stepping, with_vectors, lengthened, addition_reading, adding, Action, step, add, acting, last_answer, ran, steps, added}
+use Rattle.run.specs.Rules.{layer, held_list, is_past, is_caught, is_finished, products_done, under_way, caught_mark, complete, refused, marked, standing, zeros, begun, beginning, worked, stepping, with_vectors, lengthened, addition_reading, adding, Action, step, add, acting, last_answer, ran, steps, added}
 use Rattle.run.proofs.Laws.Additions.{addition_passed, addition_sizes, unfinished_open}
 use Rattle.run.proofs.Laws.Kept.{Kept, kept_begun, kept_worked, kept_lengthened, held_begun, held_lengthened}
 use Rattle.run.proofs.Laws.States.{unfinished, not_past, standing_past, standing_caught, standing_under, tested_refused, tested_passed, worked_is, worked_same, worked_count, testing_passed}

@@ -27,7 +27,6 @@ use Rattle.ticket.specs.declared.Answer.{Answer}
 use Rattle.ticket.specs.Rules.{most_rows, most_inner, most_columns, most_vectors, unless, plain, reading, answer}
 use Rattle.ticket.proofs.Laws.Answers.{after_zero}
 use Rattle.ticket.proofs.Laws.First.{true_or_false}
-use Rattle.ticket.specs.Laws.Limits.{Sizes}
 use Rattle.ticket.proofs.Laws.Passes.{passed_of}
 use Rattle.challenge.specs.declared.single.RowAnswer.{RowAnswer}
 use Rattle.challenge.specs.Rules.{list_reading, testing, challenge_products, caught_products, accepted, caught, product_at, balanced_at, row_made, no_row, row_check}

@@ -7,7 +7,7 @@
 --   AdditionRow P a    a is a refusal of the tests of an addition
 --   CallRow R Q b      b is a refusal that is a row of Q, handing back the state R, or the answer of a state
 --   begin_in_table, step_in_table, add_in_table   every answer of begin, of a step and of an addition is such a row
-use Rattle.std.specs.Prelude.{ℕ, ◌*◌, ◌≤◌, ◌<◌, ◌≡◌, refl, Bool, true, false, ◌||◌, List, ◌++◌, ◌⊎◌, leb}
+use Rattle.std.specs.Prelude.{ℕ, ◌*◌, ◌≤◌, ◌<◌, ◌≡◌, refl, Bool, true, false, ◌||◌, List, ◌++◌, ◌⊎◌}
 use Rattle.std.proofs.Math.Decide.{ℕ_discrete}
 use Rattle.std.proofs.Common.{sym, ap, subst, ◌∙◌, inl, inr, ⊎_elim, leb-true}
 use Rattle.ticket.specs.declared.published.PlainSetting.{PlainSetting}
@@ -23,7 +23,7 @@ use Rattle.challenge.specs.Rules.{testing, list_reading, challenge_products, cau
 use Rattle.challenge.proofs.Laws.Lists.{ListAnswer, other_count, large_number, zero_at, formed, list_answered}
 use Rattle.run.specs.declared.Run.{Run}
 use Rattle.run.specs.declared.RunAnswer.{RunAnswer}
-use Rattle.run.specs.Rules.{layer, held_list, is_past, is_caught, is_finished, products_done, under_way, caught_mark, complete, refused, marked, standing, tested, zeros, begun, beginning, worked, stepping, one_more, lengthened, is_open, addition_reading, adding}
+use Rattle.run.specs.Rules.{layer, held_list, is_past, is_caught, products_done, under_way, caught_mark, complete, refused, marked, standing, tested, zeros, begun, beginning, stepping, one_more, lengthened, is_open, addition_reading, adding}
 use Rattle.run.proofs.Laws.States.{not_past, standing_past, standing_caught, standing_under, tested_refused, tested_passed}
 
 pub data StateRow : RunAnswer → Type 0 where

@@ -4,19 +4,15 @@
 --   Answerable R a     where tests with the answer a pass, the sizes of the state's setting are within their limits
 --   due R              the vector whose row is due, one that is not there where the run is finished
 --   proceeded R a      the state after a row with the answer a, where one was due and the tests passed
-use Rattle.std.specs.Prelude.{ℕ, ◌+◌, ◌*◌, ◌≤◌, ◌<◌, ◌≡◌, Bool, ◌&&◌, ◌||◌, List, eqb, ltb}
+use Rattle.std.specs.Prelude.{ℕ, ◌≤◌, ◌≡◌, ◌&&◌, eqb}
 use Rattle.std.proofs.Math.Bool.{cond, not}
 use Rattle.ticket.specs.declared.published.PlainSetting.{PlainSetting}
-use Rattle.ticket.specs.declared.setting.Setting.{Setting}
 use Rattle.ticket.specs.declared.Answer.{Answer}
-use Rattle.ticket.specs.Rules.{most_rows, most_inner, most_columns, most_vectors, unless, plain, reading, answer}
+use Rattle.ticket.specs.Rules.{unless, plain}
 use Rattle.ticket.specs.Laws.Limits.{Sizes}
 use Rattle.challenge.specs.declared.single.RowAnswer.{RowAnswer}
-use Rattle.challenge.specs.Rules.{list_reading, testing, challenge_products, caught_products, accepted, caught, product_at, balanced_at, row_made, no_row, row_check}
-use Rattle.challenge.specs.Laws.Vectors.{ListReady}
 use Rattle.run.specs.declared.Run.{Run}
-use Rattle.run.specs.declared.RunAnswer.{RunAnswer}
-use Rattle.run.specs.Rules.{layer, held_list, is_past, is_caught, is_finished, products_done, under_way, caught_mark, complete, refused, marked, standing, tested, placed, moved, worked, stepping}
+use Rattle.run.specs.Rules.{layer, is_finished, placed, moved}
 
 pub record DoneReady (P : PlainSetting) (τ i : ℕ) : Type 0 where
   pub sizes : Sizes (plain P)

@@ -14,7 +14,7 @@
 --   entries_a, entries_b  the entries of A and of B as 16-bit numbers
 --   values_b, values_bias   the values of the records of B, and of the bias
 --   SumClaims G t y, claims_less   y holds what the claims put for the exact sums, the bias taken off, lifted modulo 2^32
-use Rattle.std.specs.Prelude.{◌≡◌, ℕ, suc, ◌+◌, ◌-◌, ◌*◌, ◌/◌, ◌%◌, ◌^◌, ◌<◌, ◌≤◌, min, true, false, List, length, ℤ, pos, negsuc, ◌+ℤ◌, ◌-ℤ◌, ◌*ℤ◌, FitsSigned, slice_index, slice_index_or, unsigned_abs}
+use Rattle.std.specs.Prelude.{◌≡◌, ℕ, suc, ◌+◌, ◌-◌, ◌*◌, ◌/◌, ◌%◌, ◌^◌, ◌<◌, ◌≤◌, true, false, List, length, ℤ, pos, negsuc, ◌+ℤ◌, ◌-ℤ◌, ◌*ℤ◌, FitsSigned, slice_index, slice_index_or, unsigned_abs}
 use Rattle.std.proofs.Math.Decide.{dec_le}
 use Rattle.std.proofs.Common.{mod-lt, arith, ◌∙◌, ⊎_elim, lit<}
 use Rattle.std.proofs.Math.Nat.{mod-eq_of_lt, mul-le-mul_left, mul-le-mul_right}
@@ -41,7 +41,7 @@ use Rattle.ticket.specs.Laws.Passes.{Passed}
 use Rattle.ticket.proofs.Laws.Passes.{valid}
 use Rattle.ticket.proofs.Laws.Differences.{bias_entry, no_bias_entry, residue_bias, size_entry_a, size_entry_b, shifted_below, remainder_below, residue_entry_b}
 use Rattle.ticket.specs.Laws.Lifts.{Lifted}
-use Rattle.ticket.specs.Laws.Decodes.{decoded_count, claim_count, shifted_at, lifted_at, narrow_shift, narrowed, narrow_at, ShiftedList, NarrowList, LiftedList, negated_word, less_at, LessList, ShiftedEntries, ShiftedRow, LiftedRow, LiftedClaims}
+use Rattle.ticket.specs.Laws.Decodes.{narrow_shift, narrowed, ShiftedList, NarrowList, LiftedList, negated_word, LessList, ShiftedEntries, ShiftedRow, LiftedRow, LiftedClaims}
 
 -- what the calls give, of any bytes
 

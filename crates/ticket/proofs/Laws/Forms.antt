@@ -9,7 +9,7 @@
 --   scanned_next         the records before i pass, and i does too
 --   FormedBytes b i κ r c, formed_exactly   the form of a record, byte by byte
 --   value_is             the value of a record, by its bytes
-use Rattle.std.specs.Prelude.{◌≡◌, ℕ, ◌+◌, ◌-◌, ◌*◌, ◌/◌, ◌%◌, ◌^◌, ◌<◌, ◌≤◌, Bool, true, false, ◌↔◌, List, [], ◌∷◌, length, take, drop, ◌==◌, ◌≢◌, nat_lt, slice_index, refl}
+use Rattle.std.specs.Prelude.{◌≡◌, ℕ, ◌+◌, ◌-◌, ◌*◌, ◌<◌, ◌≤◌, Bool, true, false, ◌↔◌, List, length, take, drop, ◌==◌, ◌≢◌, nat_lt, slice_index, refl}
 use Rattle.std.proofs.Math.Decide.{ℕ_discrete, dec_le}
 use Rattle.std.proofs.Common.{arith, sym, ◌∙◌, lit<}
 use borrow.Author.Tests.{eq-eqb, eqb-true, le-ltb}
@@ -18,13 +18,12 @@ use Rattle.algebra.specs.Rules.{word}
 use Rattle.algebra.proofs.Laws.Bytes.{word_eqb}
 use Rattle.algebra.proofs.Laws.Fills.{part_of, part_long}
 use Rattle.algebra.proofs.Laws.Positions.{Position, row_of, column_of}
-use Rattle.ticket.specs.Rules.{unless, Test, test, first_failed, record_bytes, byte_at, formed, value_at, half_range, refusal, first_refusal}
+use Rattle.ticket.specs.Rules.{unless, first_failed, record_bytes, byte_at, formed, value_at, half_range, refusal, first_refusal}
 use Rattle.ticket.proofs.Laws.Limits.{both}
 use Rattle.ticket.proofs.Laws.Scans.{refusal_is}
-use Rattle.ticket.specs.declared.Answer.{Answer}
 use Rattle.ticket.specs.declared.setting.Setting.{Setting}
 use Rattle.ticket.specs.declared.records.Form.{Form}
-use Rattle.ticket.specs.Laws.Forms.{entries_form, range_test, tests_at, tested_at, tested, part_answer, Ranged, Holds}
+use Rattle.ticket.specs.Laws.Forms.{range_test, tested_at, tested}
 
 abbrev pub quotients_form : Setting → Form
 quotients_form G =

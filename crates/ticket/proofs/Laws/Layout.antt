@@ -34,7 +34,7 @@ use Rattle.std.proofs.Math.Seq.{take-nil, take-length, drop-length, get_or-drop,
 use Rattle.residue.specs.Rules.{modulus, signed_entry}
 use Rattle.algebra.proofs.Laws.Fills.{digits_same}
 use Rattle.ticket.specs.declared.setting.Setting.{Setting}
-use Rattle.ticket.specs.Rules.{most_rows, most_inner, most_columns, half_range, is_entry, shifted_quotient, Test, test, Part, no_part, parts, part, part_size, count, start, records, record_bytes, ticket_length, holder, of_a, of_b, of_bias, of_quotients, of_remainders, bias_bound, bias_columns, byte_at, value_at, formed, part_tests, record_tests, value_in}
+use Rattle.ticket.specs.Rules.{half_range, is_entry, shifted_quotient, Test, test, Part, no_part, parts, part, part_size, count, start, records, record_bytes, ticket_length, holder, of_a, of_b, of_bias, of_quotients, of_remainders, bias_bound, bias_columns, byte_at, value_at, formed, part_tests, record_tests, value_in}
 use Rattle.ticket.specs.Laws.Limits.{Counts}
 use Rattle.ticket.specs.Laws.Layout.{longest_ticket, part_bytes, PartIs}
 

@@ -22,18 +22,18 @@
 --   number_by_lem              by that half it is the setting's number
 --   lift_made              the lift as the code makes it, of that half, is the setting's and below p
 --   Clamped G, clamped_small   the width and the scale of a clamped setting are not large, nor are products of its numbers
-use Rattle.std.specs.Prelude.{◌≡◌, ℕ, suc, ◌+◌, ◌-◌, ◌*◌, ◌^◌, ◌<◌, ◌≤◌, min, Bool, true, false, ◌&&◌, nat_le, nat_lt, refl}
+use Rattle.std.specs.Prelude.{◌≡◌, ℕ, suc, ◌+◌, ◌-◌, ◌*◌, ◌^◌, ◌<◌, ◌≤◌, Bool, true, false, ◌&&◌, refl}
 use Rattle.std.proofs.Common.{le_trans, mul-le-mul, pow-suc, arith, sym, ap, subst, ◌∙◌, true≢false, inl, inr, ⊎_elim, pow_mono}
 use Rattle.std.proofs.Math.Nat.{min-eq_left, min-le_right}
 use Rattle.std.proofs.Math.Bool.{and-eq-true_iff}
 use borrow.Author.Tests.{leb-true, ltb-true, le-leb, lt-ltb, le-ltb}
 use Rattle.residue.specs.Rules.{modulus}
 use Rattle.ticket.specs.declared.setting.Setting.{Setting}
-use Rattle.ticket.specs.Rules.{unless, test, first_failed, within, most_rows, most_inner, most_columns, most_vectors, most_scale, most_bound, most_width, most_bias_bound, bias_within, rounding_within, reach, half_range, sizes_within, scale_and_bound_within, numbers_within, fits_width, fits, limit_tests, setting_tests, setting_number, sum_products, has_bias, bias_bound, bias_columns}
+use Rattle.ticket.specs.Rules.{test, first_failed, within, most_rows, most_inner, most_columns, most_scale, most_bound, most_width, most_bias_bound, bias_within, reach, half_range, sizes_within, scale_and_bound_within, numbers_within, fits_width, fits, limit_tests, setting_tests, setting_number, has_bias, bias_bound, bias_columns}
 use Rattle.ticket.proofs.Laws.First.{true_or_false}
 use Rattle.ticket.specs.Laws.Tests.{AllHold}
 use Rattle.ticket.proofs.Laws.Tests.{Failed, here, later, first_holds, rest_hold, Numbered, tests_hold, failed_split}
-use Rattle.ticket.specs.Laws.Limits.{Sizes, Numbers, Fitted, Counts, Within, lift, renumbered, clamped, fits_by, number_by, Clamped}
+use Rattle.ticket.specs.Laws.Limits.{Sizes, Numbers, Fitted, Counts, Within, lift, clamped, number_by, Clamped}
 
 pub both : (a b : Bool) → (a && b) ≡ true → (a ≡ true) × (b ≡ true)
 both a b e = (and-eq-true_iff a b).0 e

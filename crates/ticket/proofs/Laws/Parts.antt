@@ -9,7 +9,7 @@
 --                      the part, and the next part starts after it
 --   ReadTo G t w       the records before part w pass
 --   read_none, read_next, read_refused, read_all   no part yet, one that passes more, one that does not, and all parts
-use Rattle.std.specs.Prelude.{◌≡◌, ℕ, ◌+◌, ◌-◌, ◌*◌, ◌/◌, ◌%◌, ◌^◌, ◌<◌, ◌≤◌, Bool, ltb, List, [], ◌∷◌, length, take, drop, ◌≢◌, nat_le, nat_lt, unsigned_abs, refl}
+use Rattle.std.specs.Prelude.{◌≡◌, ℕ, ◌+◌, ◌-◌, ◌*◌, ◌/◌, ◌%◌, ◌<◌, ◌≤◌, Bool, ltb, List, [], ◌∷◌, ◌≢◌, nat_le, nat_lt, unsigned_abs, refl}
 use Rattle.std.proofs.Common.{zero-add, add-zero, ◌∙◌, le-ltb}
 use Rattle.std.proofs.Math.Nat.{mod-eq_of_lt}
 use Rattle.std.proofs.Math.Decide.{dec_le}
@@ -23,15 +23,15 @@ use Rattle.algebra.proofs.Laws.Fills.{part_long}
 use Rattle.ticket.specs.declared.setting.Setting.{Setting}
 use Rattle.ticket.specs.declared.Answer.{Answer}
 use Rattle.ticket.specs.declared.records.Form.{Form}
-use Rattle.ticket.specs.Rules.{test, first_failed, Part, parts, part, of_a, of_b, of_bias, of_quotients, of_remainders, bias_bound, bias_columns, part_size, start, records, record_bytes, is_entry, is_quotient, shifted_quotient, ticket_length, formed, value_at, part_tests, record_tests, record_number, refusal, first_refusal}
-use Rattle.ticket.specs.Laws.Limits.{Numbers, Counts, Within}
+use Rattle.ticket.specs.Rules.{test, first_failed, parts, part, of_a, of_b, of_bias, of_quotients, of_remainders, bias_bound, bias_columns, part_size, start, records, record_bytes, is_entry, is_quotient, shifted_quotient, ticket_length, formed, value_at, part_tests, record_tests, record_number, refusal, first_refusal}
+use Rattle.ticket.specs.Laws.Limits.{Numbers, Within}
 use Rattle.ticket.proofs.Laws.Limits.{bias_small, half_small, half_double}
 use Rattle.ticket.specs.Laws.Layout.{part_bytes}
 use Rattle.ticket.proofs.Laws.Layout.{parts_are, start_none, start_next, ends_within, start_past, holder_at, form_of_part, value_of_part}
 use Rattle.ticket.proofs.Laws.Tests.{same_test}
 use Rattle.ticket.proofs.Laws.Scans.{refusal_none, refusal_cong, refusal_split, after_passed, after_refused}
 use Rattle.ticket.proofs.Laws.Answers.{scan_zero}
-use Rattle.ticket.specs.Laws.Forms.{entries_form, tested, tested_at, part_answer, Holds, Ranged}
+use Rattle.ticket.specs.Laws.Forms.{entries_form, tested, tested_at, part_answer, Holds}
 use Rattle.ticket.proofs.Laws.Forms.{quotients_form, remainders_form}
 use Rattle.ticket.specs.Laws.Parts.{MakesTests, ReadReady, form_bytes, PartReady}
 

@@ -5,14 +5,13 @@
 --   Valid P x        the value x is a least residue, and in range for the part P
 --   record_formed    a record of a ticket that passes has the form of its part, row and column
 --   record_valid, valid   its value, and each by part, row and column, is valid for its part
-use Rattle.std.specs.Prelude.{◌≡◌, ℕ, ◌<◌, true, List, length}
+use Rattle.std.specs.Prelude.{◌≡◌, ℕ, ◌<◌, true, List}
 use Rattle.std.proofs.Common.{arith, ap, ⊎_elim, ltb-true}
 use Rattle.residue.specs.Rules.{modulus}
 use Rattle.ticket.specs.declared.setting.Setting.{Setting}
-use Rattle.ticket.specs.Rules.{Passes, setting_tests, ticket_length, records, record_tests, Part, part, formed, value_at, value_in}
+use Rattle.ticket.specs.Rules.{Passes, records, Part, part, formed, value_at, value_in}
 use Rattle.ticket.specs.Laws.Tests.{AllHold}
 use Rattle.ticket.proofs.Laws.Tests.{first_holds, rest_hold}
-use Rattle.ticket.specs.Laws.Limits.{Counts, Numbers, Fitted}
 use Rattle.ticket.proofs.Laws.Limits.{counts, limits_of}
 use Rattle.ticket.proofs.Laws.Layout.{Located, record_at, located_tests, tests_located}
 use Rattle.ticket.proofs.Laws.Refusals.{passed_reading, refused_reading, passed_or_refused, refused_number}

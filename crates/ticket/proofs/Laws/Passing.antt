@@ -6,7 +6,7 @@
 --   record_passing        a record's tests as the code makes them
 --   rows_passing          the records up to the end of a row pass
 --   passed_part           all records pass: the answer of the part
-use Rattle.std.specs.Prelude.{◌≡◌, ℕ, ◌+◌, ◌-◌, ◌*◌, ◌/◌, ◌%◌, ◌^◌, ◌<◌, Bool, true, ◌&&◌, List, nat_le, nat_lt}
+use Rattle.std.specs.Prelude.{◌≡◌, ℕ, ◌+◌, ◌-◌, ◌*◌, ◌%◌, ◌^◌, ◌<◌, Bool, true, ◌&&◌, List, nat_le, nat_lt}
 use Rattle.std.proofs.Math.Decide.{dec_le}
 use Rattle.std.proofs.Common.{mod-eq_of_lt, arith, sym, ◌∙◌, le-ltb}
 use Rattle.std.proofs.Math.Bool.{and-false}

@@ -11,7 +11,7 @@ use Rattle.std.specs.Prelude.{◌≡◌, ℕ, ◌+◌, ◌<◌, ◌≤◌, Bool,
 use Rattle.std.proofs.Math.Decide.{ℕ_discrete}
 use Rattle.std.proofs.Common.{arith, ⊎_elim, sym, ap, ◌∙◌}
 use Rattle.ticket.specs.declared.Answer.{Answer}
-use Rattle.ticket.specs.Rules.{first, unless, scan}
+use Rattle.ticket.specs.Rules.{first}
 use Rattle.ticket.proofs.Laws.First.{joined, true_or_false, first_within, first_before, first_at}
 use Rattle.ticket.proofs.Laws.Scans.{scan_none, scan_is}
 use Rattle.ticket.specs.Laws.Runs.{Steps, steps_answer, step_answer, RunTo, RunPast}

@@ -1,7 +1,7 @@
 -- Whether a test holds at every place.
 --
 --   all n f      the test f holds at every place below n
-use Rattle.std.specs.Prelude.{◌≡◌, ℕ, zero, suc, ◌+◌, ◌-◌, ◌<◌, ◌≤◌, Bool, true, false, ◌&&◌, refl}
+use Rattle.std.specs.Prelude.{ℕ, zero, suc, Bool, true, ◌&&◌}
 
 unfoldable pub all : ℕ → (ℕ → Bool) → Bool
 all zero f = true

@@ -8,16 +8,12 @@
 --   less_at b l k          number k of l less the entry of record k of b, modulo 2^32
 --   ShiftedList b s l l', NarrowList b l l', LiftedList q r h a l l', LessList b l l'   the list l' is l, filled with these as far
 --                         as records and l go
-use Rattle.std.specs.Prelude.{◌≡◌, ℕ, suc, ◌+◌, ◌-◌, ◌*◌, ◌/◌, ◌%◌, ◌^◌, ◌<◌, ◌≤◌, min, true, false, List, length, ℤ, pos, negsuc, ◌+ℤ◌, ◌-ℤ◌, ◌*ℤ◌, FitsSigned, slice_index, slice_index_or, unsigned_abs}
-use Rattle.std.specs.Int.{w16}
-use Rattle.residue.specs.Rules.{modulus, least_residue, signed_entry}
+use Rattle.std.specs.Prelude.{◌≡◌, ℕ, ◌+◌, ◌-◌, ◌*◌, ◌/◌, ◌%◌, ◌^◌, ◌<◌, ◌≤◌, min, List, length, ℤ, pos, ◌+ℤ◌, ◌-ℤ◌, slice_index}
+use Rattle.residue.specs.Rules.{modulus}
 use Rattle.residue.specs.Laws.Modulo.{carried_sum}
-use Rattle.algebra.specs.Laws.Fills.{Filled, line_at}
+use Rattle.algebra.specs.Laws.Fills.{Filled}
 use Rattle.ticket.specs.declared.setting.Setting.{Setting}
-use Rattle.ticket.specs.Rules.{half_range, parts, part, part_size, of_a, of_b, of_bias, of_quotients, of_remainders, bias_columns, record_bytes, byte_at, value_at, value_in, shifted_quotient, entry_a, entry_b, entry_bias, quotient, remainder, claim, has_bias}
-use Rattle.ticket.specs.Laws.Limits.{lift, clamped}
-use Rattle.ticket.specs.Laws.Layout.{part_bytes}
-use Rattle.ticket.specs.Laws.Passes.{Passed}
+use Rattle.ticket.specs.Rules.{record_bytes, value_at, entry_a, claim}
 use Rattle.ticket.specs.Laws.Lifts.{Lifted}
 
 abbrev pub decoded_count : List ℕ → ℕ → ℕ

@@ -7,12 +7,10 @@
 --   part_answer F a b     the answer of the part that b begins with, of which the first record has the number a
 --   Ranged F             the range of F is within p
 --   Holds b F            b begins with the part of form F, which is not large, and its range is within p
-use Rattle.std.specs.Prelude.{◌≡◌, ℕ, ◌+◌, ◌-◌, ◌*◌, ◌/◌, ◌%◌, ◌^◌, ◌<◌, ◌≤◌, Bool, true, false, ◌↔◌, List, [], ◌∷◌, length, take, drop, ◌==◌, ◌≢◌, nat_lt, slice_index, refl}
+use Rattle.std.specs.Prelude.{ℕ, ◌+◌, ◌*◌, ◌/◌, ◌%◌, ◌^◌, ◌<◌, ◌≤◌, Bool, List, [], ◌∷◌, length, nat_lt}
 use Rattle.residue.specs.Rules.{modulus}
-use Rattle.algebra.specs.Rules.{word}
-use Rattle.ticket.specs.Rules.{unless, Test, test, first_failed, record_bytes, byte_at, formed, value_at, half_range, refusal, first_refusal}
+use Rattle.ticket.specs.Rules.{Test, test, first_failed, record_bytes, formed, value_at, first_refusal}
 use Rattle.ticket.specs.declared.Answer.{Answer}
-use Rattle.ticket.specs.declared.setting.Setting.{Setting}
 use Rattle.ticket.specs.declared.records.Form.{Form}
 
 abbrev pub entries_form : ℕ → ℕ → ℕ → ℕ → ℕ → Form

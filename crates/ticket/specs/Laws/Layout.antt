@@ -3,11 +3,9 @@
 --
 --   part_bytes G t w       the bytes of part w
 --   PartIs G w κ r c      part w has kind κ, r rows and c columns
-use Rattle.std.specs.Prelude.{◌≡◌, ℕ, zero, suc, ◌+◌, ◌-◌, ◌*◌, ◌/◌, ◌%◌, ◌^◌, ◌<◌, ◌≤◌, min, List, [], ◌∷◌, length, take, drop, nat_le, nat_lt, slice_index, slice_index_or, unsigned_abs}
-use Rattle.residue.specs.Rules.{modulus, signed_entry}
+use Rattle.std.specs.Prelude.{◌≡◌, ℕ, ◌+◌, ◌*◌, List, take, drop}
 use Rattle.ticket.specs.declared.setting.Setting.{Setting}
-use Rattle.ticket.specs.Rules.{most_rows, most_inner, most_columns, half_range, is_entry, shifted_quotient, Test, test, Part, no_part, parts, part, part_size, count, start, records, record_bytes, ticket_length, holder, of_a, of_b, of_bias, of_quotients, of_remainders, bias_bound, bias_columns, byte_at, value_at, formed, part_tests, record_tests, value_in}
-use Rattle.ticket.specs.Laws.Limits.{Counts}
+use Rattle.ticket.specs.Rules.{most_rows, most_inner, most_columns, part, part_size, start, record_bytes}
 
 abbrev pub longest_ticket : ℕ
 longest_ticket = record_bytes * (most_rows * most_inner + most_inner * most_columns + 2 * (most_rows * most_columns))

@@ -8,11 +8,10 @@
 --   renumbered G s v o     the setting G with another number of vectors, width and rounding number
 --   clamped G              the setting with no size, scale or width above its limit
 --   fits_by G h, number_by G h   the fit and the number of the setting, where h is put for half of the quotients' range
-use Rattle.std.specs.Prelude.{◌≡◌, ℕ, suc, ◌+◌, ◌-◌, ◌*◌, ◌^◌, ◌<◌, ◌≤◌, min, Bool, true, false, ◌&&◌, nat_le, nat_lt, refl}
+use Rattle.std.specs.Prelude.{ℕ, ◌+◌, ◌-◌, ◌*◌, ◌^◌, ◌<◌, ◌≤◌, min, Bool, ◌&&◌, nat_le, nat_lt}
 use Rattle.residue.specs.Rules.{modulus}
 use Rattle.ticket.specs.declared.setting.Setting.{Setting}
-use Rattle.ticket.specs.Rules.{unless, test, first_failed, within, most_rows, most_inner, most_columns, most_vectors, most_scale, most_bound, most_width, most_bias_bound, bias_within, rounding_within, reach, half_range, sizes_within, scale_and_bound_within, numbers_within, fits_width, fits, limit_tests, setting_tests, setting_number, sum_products, has_bias, bias_bound, bias_columns}
-use Rattle.ticket.specs.Laws.Tests.{AllHold}
+use Rattle.ticket.specs.Rules.{unless, most_rows, most_inner, most_columns, most_vectors, most_scale, most_bound, most_width, bias_within, rounding_within, reach, half_range, sizes_within, numbers_within, sum_products, bias_columns}
 
 pub record Sizes (G : Setting) : Type 0 where
   pub rows : (1 ≤ G.rows) × (G.rows ≤ most_rows)

@@ -4,15 +4,13 @@
 --   ReadReady G t      setting and length pass their tests
 --   form_bytes F a t    the bytes of the part of form F, the first record of which is record a
 --   PartReady F a t    they are inside the ticket, and are not many
-use Rattle.std.specs.Prelude.{◌≡◌, ℕ, ◌+◌, ◌-◌, ◌*◌, ◌/◌, ◌%◌, ◌^◌, ◌<◌, ◌≤◌, Bool, ltb, List, [], ◌∷◌, length, take, drop, ◌≢◌, nat_le, nat_lt, unsigned_abs, refl}
-use Rattle.residue.specs.Rules.{modulus, signed_entry}
+use Rattle.std.specs.Prelude.{◌≡◌, ℕ, ◌+◌, ◌-◌, ◌*◌, ◌%◌, ◌^◌, ◌<◌, ◌≤◌, List, length, take, drop, nat_lt}
+use Rattle.residue.specs.Rules.{modulus}
 use Rattle.ticket.specs.declared.setting.Setting.{Setting}
-use Rattle.ticket.specs.declared.Answer.{Answer}
 use Rattle.ticket.specs.declared.records.Form.{Form}
-use Rattle.ticket.specs.Rules.{test, first_failed, Part, parts, part, of_a, of_b, of_bias, of_quotients, of_remainders, bias_bound, bias_columns, part_size, start, records, record_bytes, is_entry, is_quotient, shifted_quotient, ticket_length, formed, value_at, part_tests, record_tests, record_number, refusal, first_refusal}
-use Rattle.ticket.specs.Laws.Limits.{Numbers, Counts, Within}
-use Rattle.ticket.specs.Laws.Layout.{part_bytes}
-use Rattle.ticket.specs.Laws.Forms.{entries_form, tested, tested_at, part_answer, Holds, Ranged}
+use Rattle.ticket.specs.Rules.{Part, record_bytes, ticket_length}
+use Rattle.ticket.specs.Laws.Limits.{Counts, Within}
+use Rattle.ticket.specs.Laws.Forms.{Ranged}
 
 -- the form of the code for a part, with the range tested by a shift
 pub record MakesTests (F : Form) (P : Part) : Type 0 where

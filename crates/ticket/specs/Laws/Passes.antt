@@ -1,10 +1,9 @@
 -- What a ticket that passes the reading and range checks gives.
 --
 --   Passed G t       setting and ticket pass, taken apart
-use Rattle.std.specs.Prelude.{◌≡◌, ℕ, ◌<◌, true, List, length}
-use Rattle.residue.specs.Rules.{modulus}
+use Rattle.std.specs.Prelude.{◌≡◌, ℕ, ◌<◌, List, length}
 use Rattle.ticket.specs.declared.setting.Setting.{Setting}
-use Rattle.ticket.specs.Rules.{Passes, setting_tests, ticket_length, records, record_tests, Part, part, formed, value_at, value_in}
+use Rattle.ticket.specs.Rules.{setting_tests, ticket_length, records, record_tests}
 use Rattle.ticket.specs.Laws.Tests.{AllHold}
 use Rattle.ticket.specs.Laws.Limits.{Counts, Numbers, Fitted}
 

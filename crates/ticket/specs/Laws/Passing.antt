@@ -2,11 +2,10 @@
 --
 --   passing_at b F k r c   record k of b passes all its tests, standing in row r, column c
 --   passing b F k         the same, the row and the column from k
-use Rattle.std.specs.Prelude.{◌≡◌, ℕ, ◌+◌, ◌-◌, ◌*◌, ◌/◌, ◌%◌, ◌^◌, ◌<◌, Bool, true, ◌&&◌, List, nat_le, nat_lt}
+use Rattle.std.specs.Prelude.{ℕ, ◌+◌, ◌/◌, ◌%◌, Bool, ◌&&◌, List, nat_lt}
 use Rattle.residue.specs.Rules.{modulus}
-use Rattle.ticket.specs.Rules.{formed, value_at, refusal}
-use Rattle.ticket.specs.Laws.All.{all}
-use Rattle.ticket.specs.Laws.Forms.{range_test, tested_at, tested, part_answer, Ranged}
+use Rattle.ticket.specs.Rules.{formed, value_at}
+use Rattle.ticket.specs.Laws.Forms.{range_test}
 use Rattle.ticket.specs.declared.records.Form.{Form}
 
 unfoldable pub passing_at : List ℕ → Form → ℕ → ℕ → ℕ → Bool

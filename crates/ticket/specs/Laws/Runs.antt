@@ -4,9 +4,9 @@
 --   steps_answer S   the answer of all of them
 --   RunTo S i a      the steps before i hold, and a is the answer so far
 --   RunPast S i a    a is the answer of the steps before i where they hold, else that of all steps
-use Rattle.std.specs.Prelude.{◌≡◌, ℕ, ◌+◌, ◌<◌, ◌≤◌, Bool, true, false, ◌≢◌}
+use Rattle.std.specs.Prelude.{◌≡◌, ℕ, ◌+◌, ◌<◌, ◌≤◌, Bool, true, ◌≢◌}
 use Rattle.ticket.specs.declared.Answer.{Answer}
-use Rattle.ticket.specs.Rules.{first, unless, scan}
+use Rattle.ticket.specs.Rules.{unless, scan}
 
 pub record Steps : Type 0 where
   pub count : ℕ

@@ -5,7 +5,7 @@
 --   lifting_of        from what a setting gives
 --   quotient_low, quotient_high, remainder_made   quotient and remainder, as the code makes them
 --   quotient_true, remainder_true   they are those of a sum that is small enough
-use Rattle.std.specs.Prelude.{◌≡◌, ℕ, ◌+◌, ◌-◌, ◌*◌, ◌/◌, ◌%◌, ◌^◌, ◌<◌, ◌≤◌, cond, List, ℤ, pos, ◌+ℤ◌, ◌-ℤ◌, ◌*ℤ◌, nat_lt, unsigned_abs}
+use Rattle.std.specs.Prelude.{◌≡◌, ℕ, ◌+◌, ◌-◌, ◌*◌, ◌/◌, ◌%◌, ◌^◌, ◌<◌, ◌≤◌, List, ℤ, pos, ◌+ℤ◌, ◌-ℤ◌, ◌*ℤ◌, unsigned_abs}
 use Rattle.std.proofs.Math.Nat.{div-add-mod, div-le_self, mod-lt}
 use Rattle.std.proofs.Math.Decide.{dec_lt}
 use native.Mathlib.Omega.{arith}
@@ -26,7 +26,7 @@ use Rattle.ticket.proofs.Laws.Limits.{lift_made, clamped_same, half_small}
 use Rattle.ticket.specs.Laws.Lifts.{Lifted}
 use Rattle.ticket.proofs.Laws.Lifts.{lifted_small, lifted_sum}
 use Rattle.writer.specs.Rules.{sum_for, quotient_of, remainder_of}
-use Rattle.writer.specs.Laws.Claims.{lifted_of, quotient_for, remainder_for, Claimed, Lifting}
+use Rattle.writer.specs.Laws.Claims.{lifted_of, quotient_for, remainder_for, Lifting}
 
 module _ (G : Setting) (A B C : List ℤ) (i j : ℕ) where
   pub claim_sum : pos G.scale *ℤ quotient_of G A B C i j +ℤ remainder_of G A B C i j ≡ dividend G (sum_for G A B C i j)

@@ -2,7 +2,7 @@
 --
 --   plain_operands   the tests of the operands: 13 and 14
 --   plain_sum        what a claim is made for: the exact sum
-use Rattle.std.specs.Prelude.{◌≡◌, ℕ, List, [], ◌++◌, length, ℤ, ◌+ℤ◌, ◌==◌}
+use Rattle.std.specs.Prelude.{◌≡◌, ℕ, List, [], ◌++◌, length, ℤ, ◌==◌}
 use Rattle.std.proofs.Math.Decide.{ℕ_discrete}
 use Rattle.std.proofs.Common.{arith, ◌∙◌, eq-eqb}
 use Rattle.std.proofs.Math.Path.{sym}

@@ -12,15 +12,14 @@ use Rattle.algebra.specs.Rules.{word}
 use Rattle.algebra.proofs.Laws.Fills.{part_of}
 use Rattle.algebra.proofs.Laws.Positions.{Position, position_of, position_within}
 use Rattle.ticket.specs.declared.setting.Setting.{Setting}
-use Rattle.ticket.specs.Rules.{most_inner, record_bytes, start}
+use Rattle.ticket.specs.Rules.{most_inner, start}
 use Rattle.ticket.specs.Laws.Layout.{PartIs}
-use Rattle.writer.specs.Rules.{entry_of, integer_in, record_of, ticket_record}
-use Rattle.writer.specs.Laws.Operands.{SmallEntries}
+use Rattle.writer.specs.Rules.{integer_in, ticket_record}
 use Rattle.writer.specs.Laws.Records.{words_of}
 use Rattle.writer.proofs.Laws.Records.{words_record, record_named}
 use Rattle.writer.specs.Laws.Writes.{Among, Wrote}
 use Rattle.writer.proofs.Laws.Writes.{wrote_none, wrote_as, wrote_on}
-use Rattle.writer.specs.Laws.Lines.{line_record, LineReady, LineWrote, OperandReady, FewReady, OperandOf, OperandTo, OperandWrote}
+use Rattle.writer.specs.Laws.Lines.{line_record, OperandReady, FewReady, OperandTo}
 
 pub few_ready : {start height width : ℕ} {operand : List ℤ} {output : List ℕ} → OperandReady start height width operand output
     → length operand ≤ most_inner → FewReady start width operand output

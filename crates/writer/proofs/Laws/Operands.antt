@@ -15,7 +15,7 @@
 --   magnitude_negative, magnitude_fits, magnitude_positive   that value of a number below zero, and of another
 --   entry_fits, entry_read   an entry of at most 30 bits fits 32, and is itself as it is read
 --   residue_negative, residue_fits, residue_positive   the least residue of an entry below zero, and of another
-use Rattle.std.specs.Prelude.{◌≡◌, ℕ, suc, ◌+◌, ◌-◌, ◌*◌, ◌%◌, ◌^◌, ◌<◌, ◌≤◌, Bool, true, false, List, ◌++◌, length, take, drop, ℤ, pos, negsuc, ◌+ℤ◌, ◌-ℤ◌, ◌≢◌, int_lt, nat_le, slice_index_or, unsigned_abs, refl}
+use Rattle.std.specs.Prelude.{◌≡◌, ℕ, suc, ◌+◌, ◌-◌, ◌%◌, ◌^◌, ◌<◌, ◌≤◌, Bool, true, false, List, ◌++◌, length, take, drop, ℤ, pos, negsuc, ◌+ℤ◌, ◌-ℤ◌, ◌≢◌, int_lt, nat_le, slice_index_or, unsigned_abs, refl}
 use Rattle.std.proofs.Math.Decide.{ℕ_discrete, dec_le}
 use Rattle.std.proofs.Common.{arith, sym, ap, subst, ◌∙◌, true≢false, le-leb, leb-true, ltb-true, pow_mono, length-append, get_or-append-add, SFits, to_z, of_z, to_z-of_z}
 use Rattle.std.proofs.Math.Path.{subst⁻¹}
@@ -34,8 +34,8 @@ use Rattle.ticket.specs.Rules.{unless, refusal, after, first_refusal}
 use Rattle.ticket.specs.Laws.All.{all}
 use Rattle.ticket.proofs.Laws.All.{all_at}
 use Rattle.ticket.proofs.Laws.Scans.{refusal_none, refusal_is, refusal_cong, refusal_split}
-use Rattle.writer.specs.Rules.{beyond_number, entry_of}
-use Rattle.writer.specs.Laws.Operands.{within_at, SmallEntries, column_of, NarrowReady, TurnReady, BiasReady, biased_word}
+use Rattle.writer.specs.Rules.{beyond_number}
+use Rattle.writer.specs.Laws.Operands.{within_at, SmallEntries, biased_word}
 
 -- tests 14 and 18
 

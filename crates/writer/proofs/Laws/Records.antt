@@ -18,7 +18,7 @@
 --   length_words         how many they are
 --   words_record         the words of a record are its bytes
 --   words_put            eight bytes set one after the other are those of two words
-use Rattle.std.specs.Prelude.{◌≡◌, ℕ, zero, suc, ◌+◌, ◌-◌, ◌*◌, ◌/◌, ◌%◌, ◌^◌, ◌<◌, ◌≤◌, true, List, [], ◌∷◌, ◌++◌, length, ℤ, slice_index}
+use Rattle.std.specs.Prelude.{◌≡◌, ℕ, zero, suc, ◌+◌, ◌-◌, ◌*◌, ◌/◌, ◌%◌, ◌^◌, ◌<◌, ◌≤◌, true, List, ◌++◌, length, ℤ, slice_index}
 use Rattle.std.proofs.Common.{mul-le-mul_left, arith, ap, ◌∙◌, append-nil, length-append, drop_of_length-le, get_or-append-add}
 use Rattle.std.proofs.Math.Decide.{ℕ_discrete}
 use Rattle.std.proofs.Math.Path.{refl, sym}

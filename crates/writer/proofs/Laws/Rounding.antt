@@ -3,7 +3,7 @@
 --   unrounded_quotient, unrounded_remainder   with 0, the sum over the scale, rounded down, and what is left
 --   Unread G o, rounding_unread               the tests of the operands, what a claim is made for, and the answer where a ticket is written,
 --                                             do not read it
-use Rattle.std.specs.Prelude.{◌≡◌, ℕ, List, ℤ, pos, ◌-ℤ◌, ◌*ℤ◌, refl}
+use Rattle.std.specs.Prelude.{◌≡◌, ℕ, List, ℤ, pos, ◌-ℤ◌, ◌*ℤ◌}
 use Rattle.std.proofs.Math.Path.{ap}
 use Rattle.algebra.specs.Rules.{floor_division}
 use Rattle.ticket.specs.declared.setting.Setting.{Setting}

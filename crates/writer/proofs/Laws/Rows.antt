@@ -19,23 +19,23 @@ use Rattle.algebra.proofs.Laws.Positions.{row_inside}
 use Rattle.exact.specs.Laws.Matrices.{turned_number, RowSums}
 use Rattle.exact.proofs.Laws.Matrices.{row_sums_exact}
 use Rattle.ticket.specs.declared.setting.Setting.{Setting}
-use Rattle.ticket.specs.Rules.{most_rows, most_inner, most_columns, record_bytes, ticket_length, half_range, start, of_quotients, of_remainders, bias_columns, has_bias}
+use Rattle.ticket.specs.Rules.{most_rows, most_inner, most_columns, start, of_quotients, of_remainders, bias_columns, has_bias}
 use Rattle.ticket.proofs.Laws.Differences.{biased_sum_is}
 use Rattle.ticket.proofs.Laws.Layout.{parts_are, length_is, part_quotients, part_remainders}
 use Rattle.ticket.specs.Laws.Limits.{clamped}
 use Rattle.ticket.proofs.Laws.Limits.{with_bias_lem, without_bias, counts}
 use Rattle.ticket.proofs.Laws.First.{true_or_false}
 use Rattle.residue.proofs.Laws.Residues.{residue_sum}
-use Rattle.writer.specs.Rules.{entry_of, sum_for, quotient_of, remainder_of, ticket_record}
+use Rattle.writer.specs.Rules.{entry_of, sum_for, quotient_of, remainder_of}
 use Rattle.writer.specs.Laws.Answers.{Writable}
-use Rattle.writer.specs.Laws.Claims.{Lifting, Claimed}
+use Rattle.writer.specs.Laws.Claims.{Claimed}
 use Rattle.writer.proofs.Laws.Claims.{lifting_of, quotient_true, remainder_true}
 use Rattle.writer.proofs.Laws.Entries.{limits, long_a, long_b, long_c, no_bias, size_sum_for}
 use Rattle.writer.proofs.Laws.Lines.{words_named}
 use Rattle.writer.specs.Laws.Operands.{column_of, BiasReady, biased_word}
 use Rattle.writer.specs.Laws.Records.{words_of}
 use Rattle.writer.proofs.Laws.Records.{integer_quotient, integer_remainder}
-use Rattle.writer.specs.Laws.Writes.{Wrote, Among, Both}
+use Rattle.writer.specs.Laws.Writes.{Wrote, Among}
 use Rattle.writer.proofs.Laws.Writes.{wrote_none, wrote_as, wrote_both, both_on}
 use Rattle.writer.specs.Laws.Rows.{RowReady, RowOf, RowTo, RowWrote, Room, RowsReady, ClaimsWrote}
 

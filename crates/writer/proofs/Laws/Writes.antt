@@ -13,7 +13,7 @@ use Rattle.std.proofs.Math.Decide.{dec_le, dec_lt, ℕ_discrete}
 use Rattle.std.proofs.Math.ListN.{get_or-append}
 use Rattle.algebra.proofs.Laws.Fills.{Replaced}
 use Rattle.ticket.specs.Rules.{record_bytes, byte_at}
-use Rattle.writer.specs.Laws.Writes.{RecordIs, Kept, Wrote, Among, Both}
+use Rattle.writer.specs.Laws.Writes.{RecordIs, Wrote, Among, Both}
 
 pub wrote_none : {R : ℕ → List ℕ} {P : ℕ → Type 0} {before : List ℕ} → ((k : ℕ) → P k → ⊥) → Wrote R P before before
 wrote_none none = record { long = refl; each = λ k. inr (none k, record { byte = λ i l. refl }) }

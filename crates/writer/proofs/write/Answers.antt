@@ -1,4 +1,4 @@
-use Rattle.std.proofs.Common.{◌≡◌, ◌<◌, ◌≤◌, length, sym, ap, ◌∙◌, arith, rules}
+use Rattle.std.proofs.Common.{◌≡◌, ◌<◌, ◌≤◌, length, sym, ap, ◌∙◌, arith}
 use Rattle.ticket.specs.Rules.{answer, setting_number, setting_tests, ticket_length, sum_products}
 use Rattle.ticket.proofs.Laws.Layout.{length_most}
 use Rattle.ticket.specs.Laws.Limits.{clamped}

@@ -1,7 +1,6 @@
-use Rattle.std.proofs.Common.{◌≤◌, length, arith, rules}
+use Rattle.std.proofs.Common.{◌≤◌, length, arith}
 use Rattle.ticket.specs.Rules.{ticket_length}
 use Rattle.writer.proofs.Laws.Entries.{limits}
-use Rattle.writer.proofs.Laws.Rows.{claims_early}
 use Rattle.writer.proofs.Laws.Tickets.{ready_a, ready_b, ready_c, ticket_wrote}
 use Rattle.writer.proofs.write_ticket.Goals as goal
 

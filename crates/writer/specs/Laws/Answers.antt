@@ -2,12 +2,11 @@
 --
 --   Writable G A B C   the setting passes, the operands and the bias have their lengths, and their entries are within their bounds
 --   lengths_reading G A B C   the answer of test 13 alone; its number is 0 where all have their lengths
-use Rattle.std.specs.Prelude.{◌≡◌, ℕ, ◌+◌, ◌-◌, ◌<◌, ◌≤◌, Bool, true, false, List, ◌++◌, length, drop, ℤ, pos, ◌==◌, ◌≢◌, nat_eq, nat_le, slice_index_or, unsigned_abs, refl}
+use Rattle.std.specs.Prelude.{◌≡◌, ℕ, ◌<◌, ◌≤◌, List, length, ℤ, pos, ◌==◌, slice_index_or, unsigned_abs}
 use Rattle.ticket.specs.declared.setting.Setting.{Setting}
 use Rattle.ticket.specs.declared.Answer.{Answer}
-use Rattle.ticket.specs.Rules.{unless, refusal, after, first_refusal, setting_tests, setting_number, part, part_size, of_a, of_b, of_bias, bias_bound, ticket_length}
+use Rattle.ticket.specs.Rules.{unless, refusal, setting_tests, part, part_size, of_a, of_b, of_bias, bias_bound}
 use Rattle.ticket.specs.Laws.Tests.{AllHold}
-use Rattle.writer.specs.Rules.{beyond_number, operands_reading, written, writing, ticket_of, output_after}
 
 pub record Writable (G : Setting) (A B C : List ℤ) : Type 0 where
   pub setting : AllHold (setting_tests G)

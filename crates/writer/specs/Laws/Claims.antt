@@ -4,14 +4,11 @@
 --   quotient_for G s, remainder_for G s   the least residue of its quotient, and its remainder
 --   Claimed G s q r   q and r are these
 --   Lifting G h l     the setting's numbers pass; h is half of the quotients' range, and l is the lift
-use Rattle.std.specs.Prelude.{◌≡◌, ℕ, ◌+◌, ◌-◌, ◌*◌, ◌/◌, ◌%◌, ◌^◌, ◌<◌, ◌≤◌, cond, List, ℤ, pos, ◌+ℤ◌, ◌-ℤ◌, ◌*ℤ◌, nat_lt, unsigned_abs}
-use Rattle.residue.specs.Rules.{modulus, least_residue}
-use Rattle.algebra.specs.Rules.{floor_division}
+use Rattle.std.specs.Prelude.{◌≡◌, ℕ, ◌+◌, ◌-◌, ◌/◌, ◌%◌, ◌^◌, cond, nat_lt}
+use Rattle.residue.specs.Rules.{modulus}
 use Rattle.ticket.specs.declared.setting.Setting.{Setting}
-use Rattle.ticket.specs.Rules.{reach, half_range, dividend}
-use Rattle.ticket.specs.Laws.Limits.{Numbers, Fitted, Within, lift, clamped}
-use Rattle.ticket.specs.Laws.Lifts.{Lifted}
-use Rattle.writer.specs.Rules.{sum_for, quotient_of, remainder_of}
+use Rattle.ticket.specs.Rules.{half_range}
+use Rattle.ticket.specs.Laws.Limits.{Numbers, Fitted, lift}
 
 abbrev pub lifted_of : Setting → ℕ → ℕ
 lifted_of G sum = (sum + lift G) % 2 ^ 32

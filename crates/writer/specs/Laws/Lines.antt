@@ -8,15 +8,13 @@
 --   OperandOf G A B C w κ m n a x   x is what part w stands for, which has the kind κ and begins at record a
 --   OperandTo κ n a x c o o'    its first c records are written, whatever ticket it is in
 --   OperandWrote κ n a x o o'   all are
-use Rattle.std.specs.Prelude.{◌≡◌, ℕ, ◌+◌, ◌-◌, ◌*◌, ◌<◌, ◌≤◌, List, length, get_or, take, drop, ℤ, pos, slice_index_or}
+use Rattle.std.specs.Prelude.{◌≡◌, ℕ, ◌+◌, ◌-◌, ◌*◌, ◌<◌, ◌≤◌, List, length, ℤ, pos, slice_index_or}
 use Rattle.residue.specs.Rules.{modulus, least_residue}
-use Rattle.algebra.specs.Rules.{word}
 use Rattle.ticket.specs.declared.setting.Setting.{Setting}
 use Rattle.ticket.specs.Rules.{most_inner, record_bytes, start}
 use Rattle.ticket.specs.Laws.Layout.{PartIs}
 use Rattle.writer.specs.Rules.{entry_of, integer_in, record_of, ticket_record}
 use Rattle.writer.specs.Laws.Operands.{SmallEntries}
-use Rattle.writer.specs.Laws.Records.{words_of}
 use Rattle.writer.specs.Laws.Writes.{Among, Wrote}
 
 abbrev pub line_record : ℕ → ℕ → ℕ → List ℤ → ℕ → List ℕ

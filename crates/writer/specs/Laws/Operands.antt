@@ -6,13 +6,9 @@
 --   NarrowReady x n j l   x has such entries, and l has room for that column
 --   TurnReady x m n l     x has m rows and n columns of such entries, and l has room for them all
 --   BiasReady C a n   the bias C has n entries from entry a on, which comes early, or none at all
-use Rattle.std.specs.Prelude.{◌≡◌, ℕ, suc, ◌+◌, ◌-◌, ◌*◌, ◌%◌, ◌^◌, ◌<◌, ◌≤◌, Bool, true, false, List, ◌++◌, length, take, drop, ℤ, pos, negsuc, ◌+ℤ◌, ◌-ℤ◌, ◌≢◌, int_lt, nat_le, slice_index_or, unsigned_abs, refl}
-use Rattle.std.specs.Int.Signed.{mag}
-use Rattle.std.specs.Int.{w16, w32, w64}
-use Rattle.residue.specs.Rules.{modulus, least_residue}
-use Rattle.ticket.specs.Rules.{unless, refusal, after, first_refusal}
-use Rattle.ticket.specs.Laws.All.{all}
-use Rattle.writer.specs.Rules.{beyond_number, entry_of}
+use Rattle.std.specs.Prelude.{◌≡◌, ℕ, ◌+◌, ◌*◌, ◌%◌, ◌^◌, ◌<◌, ◌≤◌, Bool, List, length, ℤ, pos, ◌≢◌, nat_le, slice_index_or, unsigned_abs}
+use Rattle.residue.specs.Rules.{least_residue}
+use Rattle.writer.specs.Rules.{entry_of}
 
 abbrev pub within_at : ℕ → List ℤ → ℕ → Bool
 within_at bound x k = nat_le (unsigned_abs (slice_index_or x k (pos 0))) bound

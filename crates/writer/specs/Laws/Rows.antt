@@ -9,20 +9,17 @@
 --   RowsReady G h A B C x Y s o   A and B are to be written, h is half of the quotients' range, and there is room for a row of A, for the
 --                              columns of B, for sums and for the ticket
 --   ClaimsWrote G A B C n o o'   the claims of the first n rows are written
-use Rattle.std.specs.Prelude.{◌≡◌, ℕ, ◌+◌, ◌-◌, ◌*◌, ◌^◌, ◌<◌, ◌≤◌, true, List, length, get_or, take, drop, ℤ, pos, slice_index, slice_index_or}
-use Rattle.residue.specs.Rules.{modulus, least_residue}
-use Rattle.algebra.specs.Rules.{word, matrix_product}
-use Rattle.algebra.specs.Laws.Fills.{Filled}
-use Rattle.exact.specs.Laws.Matrices.{turned_number, RowSums}
+use Rattle.std.specs.Prelude.{◌≡◌, ℕ, ◌+◌, ◌*◌, ◌^◌, ◌<◌, ◌≤◌, List, length, ℤ, slice_index}
+use Rattle.residue.specs.Rules.{least_residue}
+use Rattle.algebra.specs.Rules.{matrix_product}
 use Rattle.ticket.specs.declared.setting.Setting.{Setting}
-use Rattle.ticket.specs.Rules.{most_rows, most_inner, most_columns, record_bytes, ticket_length, half_range, start, of_quotients, of_remainders, bias_columns, has_bias}
+use Rattle.ticket.specs.Rules.{most_columns, record_bytes, ticket_length, half_range, start, of_quotients, of_remainders}
 use Rattle.ticket.specs.Laws.Limits.{clamped}
-use Rattle.writer.specs.Rules.{entry_of, sum_for, quotient_of, remainder_of, ticket_record}
+use Rattle.writer.specs.Rules.{entry_of, ticket_record}
 use Rattle.writer.specs.Laws.Answers.{Writable}
-use Rattle.writer.specs.Laws.Claims.{Lifting, Claimed}
-use Rattle.writer.specs.Laws.Operands.{column_of, BiasReady, biased_word}
-use Rattle.writer.specs.Laws.Records.{words_of}
-use Rattle.writer.specs.Laws.Writes.{Wrote, Among, Both}
+use Rattle.writer.specs.Laws.Claims.{Lifting}
+use Rattle.writer.specs.Laws.Operands.{BiasReady}
+use Rattle.writer.specs.Laws.Writes.{Wrote, Both}
 
 pub record RowReady (G : Setting) (half lifting : ℕ) (C : List ℤ) (from : ℕ) (sums : List ℕ) (quotients remainders : ℕ) (output : List ℕ) : Type 0 where
   pub lifts : Lifting G half lifting

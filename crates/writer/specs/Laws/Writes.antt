@@ -5,7 +5,7 @@
 --   Wrote R P o o'      o' is o with record R k at each k of P
 --   Among a n k         record k is one of the n from a on
 --   Both a b n k        it is one of the n from a on, or of the n from b on
-use Rattle.std.specs.Prelude.{◌≡◌, ℕ, ◌+◌, ◌-◌, ◌*◌, ◌/◌, ◌%◌, ◌<◌, ◌≤◌, ◌⊎◌, List, ◌++◌, length, drop, ◌≢◌, slice_index, refl}
+use Rattle.std.specs.Prelude.{◌≡◌, ℕ, ◌+◌, ◌<◌, ◌≤◌, ◌⊎◌, List, length, slice_index}
 use Rattle.ticket.specs.Rules.{record_bytes, byte_at}
 
 pub record RecordIs (bytes : List ℕ) (k : ℕ) (r : List ℕ) : Type 0 where

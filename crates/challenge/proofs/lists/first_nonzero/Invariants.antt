@@ -1,12 +1,9 @@
 -- The loop keeps: the first j numbers are 0.
 use Prim.Native.Nat.{ℕ, ◌-◌, ◌≤◌, ◌<◌}
-use native.Mathlib.Omega.{arith}
-use mathlib.Core.Path.{◌≡◌, sym, ◌∙◌}
+use mathlib.Core.Path.{◌≡◌}
 use mathlib.Core.Bool.{true}
-use borrow.Author.Count.{below_more}
 use lib.Dec.{eqb}
 use lib.ListN.{length, get_or}
-use Rattle.ticket.proofs.Laws.First.{first_is, first_none}
 use Rattle.challenge.proofs.lists.first_nonzero.Given as goal
 
 abbrev pub invariant-loop-j : goal.invariant-loop-j

@@ -1,12 +1,6 @@
-use Prim.Native.Nat.{◌-◌, ◌≤◌}
 use native.Mathlib.Omega.{arith}
-use mathlib.Core.Path.{◌≡◌}
-use lib.ListN.{length}
-use borrow.Author.Rules.{rules}
 use Rattle.residue.proofs.Laws.Modulus.{modulus_positive}
-use Rattle.ticket.specs.Laws.All.{all}
 use Rattle.ticket.proofs.Laws.All.{all_none, all_next}
-use Rattle.challenge.specs.Laws.Lists.{nonzero_residue}
 use Rattle.challenge.proofs.lists.nonzero_residues.Goals as goal
 
 pub overflow_sub-most : goal.overflow_sub-most
@@ -16,4 +10,4 @@ pub loop-k-init : goal.loop-k-init
 loop-k-init c = (omega arith, all_none _)
 
 pub loop-k-preserved : goal.loop-k-preserved
-loop-k-preserved c =     (omega arith, all_next c.loop-k.k _ c.loop-k.invariant.1 (rw c.modulus-most.ensures))
+loop-k-preserved c = (omega arith, all_next c.loop-k.k _ c.loop-k.invariant.1 (rw c.modulus-most.ensures))

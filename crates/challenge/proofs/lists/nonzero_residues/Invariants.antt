@@ -1,12 +1,8 @@
 -- The loop keeps in `all` whether the first k numbers are from 1 to p - 1.
 use Prim.Native.Nat.{◌-◌, ◌≤◌}
-use native.Mathlib.Omega.{arith}
 use mathlib.Core.Path.{◌≡◌}
 use lib.ListN.{length}
-use borrow.Author.Rules.{rules}
-use Rattle.residue.proofs.Laws.Modulus.{modulus_positive}
 use Rattle.ticket.specs.Laws.All.{all}
-use Rattle.ticket.proofs.Laws.All.{all_none, all_next}
 use Rattle.challenge.specs.Laws.Lists.{nonzero_residue}
 use Rattle.challenge.proofs.lists.nonzero_residues.Given as goal
 

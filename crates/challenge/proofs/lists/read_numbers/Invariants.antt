@@ -1,11 +1,7 @@
 -- The loop keeps: the first k numbers are least residues.
 use Prim.Native.Nat.{ℕ, ◌-◌, ◌≤◌, ◌<◌}
-use native.Mathlib.Omega.{arith}
-use borrow.Author.Count.{below_more}
-use borrow.Author.Rules.{rules}
 use lib.ListN.{length, get_or}
 use Rattle.residue.specs.Rules.{modulus}
-use Rattle.challenge.proofs.Laws.Lists.{numbers_refused, numbers_passed}
 use Rattle.challenge.proofs.lists.read_numbers.Given as goal
 
 abbrev pub invariant-loop-k : goal.invariant-loop-k

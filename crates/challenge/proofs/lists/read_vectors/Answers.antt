@@ -1,11 +1,8 @@
-use Prim.Native.Nat.{ℕ, ◌-◌, ◌≤◌, ◌<◌}
 use native.Mathlib.Omega.{arith}
-use mathlib.Core.Path.{◌≡◌, sym}
+use mathlib.Core.Path.{sym}
 use borrow.Author.Count.{below_more}
 use borrow.Author.Rules.{rules}
-use Rattle.algebra.proofs.Laws.Positions.{row_inside}
 use Rattle.ticket.proofs.Laws.Scans.{refusal_none}
-use Rattle.challenge.specs.Rules.{vector_number}
 use Rattle.challenge.proofs.Laws.Lists.{line_zero, line_other, vectors_refused}
 use Rattle.challenge.proofs.lists.read_vectors.Goals as goal
 

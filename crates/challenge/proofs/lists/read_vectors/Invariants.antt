@@ -1,13 +1,7 @@
 -- The loop keeps: the vectors before t pass.
 use Prim.Native.Nat.{ℕ, ◌-◌, ◌≤◌, ◌<◌}
-use native.Mathlib.Omega.{arith}
-use mathlib.Core.Path.{◌≡◌, sym}
-use borrow.Author.Count.{below_more}
-use borrow.Author.Rules.{rules}
-use Rattle.algebra.proofs.Laws.Positions.{row_inside}
-use Rattle.ticket.proofs.Laws.Scans.{refusal_none}
+use mathlib.Core.Path.{◌≡◌}
 use Rattle.challenge.specs.Rules.{vector_number}
-use Rattle.challenge.proofs.Laws.Lists.{line_zero, line_other, vectors_refused}
 use Rattle.challenge.proofs.lists.read_vectors.Given as goal
 
 abbrev pub invariant-loop-t : goal.invariant-loop-t

@@ -1,9 +1,6 @@
-use Prim.Native.Nat.{◌-◌, ◌*◌, ◌≤◌}
 use native.Mathlib.Omega.{arith}
-use borrow.Author.Rules.{rules}
-use lib.ListN.{length, get_or}
 use Rattle.challenge.specs.Laws.Products.{dot_with}
-use Rattle.challenge.proofs.Laws.Products.{Reached, reached_none, reached_all, reduced, narrow_product, narrow_total, narrow_more}
+use Rattle.challenge.proofs.Laws.Products.{reached_none, reached_all, reduced, narrow_total, narrow_more}
 use Rattle.challenge.proofs.products.dot.Goals as goal
 
 pub loop-i-init : goal.loop-i-init

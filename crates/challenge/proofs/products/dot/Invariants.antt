@@ -1,10 +1,7 @@
 -- The loop keeps: the sum is the offset and the first i products.
 use Prim.Native.Nat.{◌-◌, ◌*◌, ◌≤◌}
-use native.Mathlib.Omega.{arith}
-use borrow.Author.Rules.{rules}
 use lib.ListN.{length, get_or}
-use Rattle.challenge.specs.Laws.Products.{dot_with}
-use Rattle.challenge.proofs.Laws.Products.{Reached, reached_none, reached_all, reduced, narrow_product, narrow_total, narrow_more}
+use Rattle.challenge.proofs.Laws.Products.{Reached}
 use Rattle.challenge.proofs.products.dot.Given as goal
 
 abbrev pub invariant-loop-i : goal.invariant-loop-i

@@ -1,8 +1,5 @@
-use Prim.Native.Nat.{◌-◌, ◌≤◌}
 use native.Mathlib.Omega.{arith}
-use borrow.Author.Rules.{rules}
-use lib.ListN.{length, get_or}
-use Rattle.challenge.proofs.Laws.Products.{Reached, reached_none, reached_more, total_fits, offset_made, offset_fits}
+use Rattle.challenge.proofs.Laws.Products.{reached_none, reached_more, total_fits, offset_made}
 use Rattle.challenge.proofs.products.offset.Goals as goal
 
 pub loop-j-init : goal.loop-j-init

@@ -1,9 +1,7 @@
 -- The loop keeps: the sum is that of the first j numbers.
 use Prim.Native.Nat.{◌-◌, ◌≤◌}
-use native.Mathlib.Omega.{arith}
-use borrow.Author.Rules.{rules}
 use lib.ListN.{length, get_or}
-use Rattle.challenge.proofs.Laws.Products.{Reached, reached_none, reached_more, total_fits, offset_made, offset_fits}
+use Rattle.challenge.proofs.Laws.Products.{Reached}
 use Rattle.challenge.proofs.products.offset.Given as goal
 
 abbrev pub invariant-loop-j : goal.invariant-loop-j

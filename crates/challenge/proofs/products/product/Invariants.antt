@@ -1,12 +1,8 @@
 -- The loop keeps: the first k numbers of u are rows of the matrix times the vector.
-use Prim.Native.Nat.{◌-◌, ◌≤◌, ◌<◌}
-use native.Mathlib.Omega.{arith}
+use Prim.Native.Nat.{◌-◌, ◌≤◌}
 use lib.ListN.{length}
 use Rattle.algebra.specs.Laws.Fills.{Filled}
-use Rattle.algebra.proofs.Laws.Fills.{filled_none, filled_more, filled_all}
-use Rattle.algebra.proofs.Laws.Positions.{row_inside}
 use Rattle.challenge.specs.Laws.Products.{rows_times}
-use Rattle.challenge.proofs.Laws.Products.{records_ready}
 use Rattle.challenge.proofs.products.product.Given as goal
 
 abbrev pub invariant-loop-k : goal.invariant-loop-k

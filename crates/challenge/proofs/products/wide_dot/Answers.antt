@@ -1,10 +1,9 @@
-use Prim.Native.Nat.{◌-◌, ◌*◌, ◌^◌, ◌≤◌, ◌<◌}
+use Prim.Native.Nat.{◌^◌, ◌<◌}
 use native.Mathlib.Omega.{arith}
-use borrow.Author.Rules.{rules}
-use lib.ListN.{length, get_or}
-use Rattle.residue.proofs.Laws.Products.{HoldsSum, holds_none}
+use lib.ListN.{get_or}
+use Rattle.residue.proofs.Laws.Products.{holds_none}
 use Rattle.challenge.specs.Laws.Products.{dot_with}
-use Rattle.challenge.proofs.Laws.Products.{reduced, term_fits, term_more, held_with}
+use Rattle.challenge.proofs.Laws.Products.{reduced, term_more, held_with}
 use Rattle.challenge.proofs.products.wide_dot.Goals as goal
 
 pub loop-c-init : goal.loop-c-init

@@ -1,11 +1,7 @@
 -- The loop keeps: the two words hold the sum of the first c products.
-use Prim.Native.Nat.{◌-◌, ◌*◌, ◌^◌, ◌≤◌, ◌<◌}
-use native.Mathlib.Omega.{arith}
-use borrow.Author.Rules.{rules}
+use Prim.Native.Nat.{◌-◌, ◌*◌, ◌≤◌}
 use lib.ListN.{length, get_or}
-use Rattle.residue.proofs.Laws.Products.{HoldsSum, holds_none}
-use Rattle.challenge.specs.Laws.Products.{dot_with}
-use Rattle.challenge.proofs.Laws.Products.{reduced, term_fits, term_more, held_with}
+use Rattle.residue.proofs.Laws.Products.{HoldsSum}
 use Rattle.challenge.proofs.products.wide_dot.Given as goal
 
 abbrev pub invariant-loop-c : goal.invariant-loop-c

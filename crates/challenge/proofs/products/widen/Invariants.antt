@@ -1,11 +1,7 @@
 -- The loop keeps: the first j numbers of the list are those of the vector, and of 32 bits.
 use Prim.Native.Nat.{ℕ, ◌-◌, ◌^◌, ◌≤◌, ◌<◌}
-use native.Mathlib.Decide.{dec_lt}
-use native.Mathlib.Omega.{arith}
-use mathlib.Core.Path.{◌≡◌, refl}
 use lib.ListN.{length, get_or}
 use Rattle.algebra.specs.Laws.Fills.{Filled}
-use Rattle.algebra.proofs.Laws.Fills.{filled_none, filled_more, filled_all}
 use Rattle.challenge.proofs.products.widen.Given as goal
 
 abbrev pub invariant-loop-j : goal.invariant-loop-j

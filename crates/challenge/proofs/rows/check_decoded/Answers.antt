@@ -1,19 +1,18 @@
 use native.Mathlib.Omega.{arith}
-use borrow.Author.Rules.{rules}
-use mathlib.Core.Path.{refl, sym}
+use mathlib.Core.Path.{refl}
 use lib.Seq.{length-take-le}
 use Rattle.ticket.specs.Laws.Limits.{Counts}
 use Rattle.ticket.proofs.Laws.Passes.{passes_of}
 use Rattle.challenge.proofs.Laws.Checks.{check_list, check_rows, rows_can}
-use Rattle.challenge.proofs.Laws.Sides.{decoded_by, room_within, room_front, room_rest}
+use Rattle.challenge.proofs.Laws.Sides.{decoded_by, room_front, room_rest}
 use Rattle.challenge.proofs.rows.check_decoded.Goals as goal
 
 pub returns-then-listed-ne0 : goal.returns-then-listed-ne0
-returns-then-listed-ne0 c =     check_list _ _ _ refl (passes_of _ _ c.requires.passed) c.read_list-listed.ensures c.if-listed-ne0.true
+returns-then-listed-ne0 c = check_list _ _ _ refl (passes_of _ _ c.requires.passed) c.read_list-listed.ensures c.if-listed-ne0.true
 
 pub check_vectors-requires : goal.check_vectors-requires
 check_vectors-requires c = let counts : Counts c.args.setting = c.requires.passed.counts in
-                        let pre = c.requires in (
+    let pre = c.requires in (
       rows_can pre.passed c.read_list-listed.ensures c.if-listed-ne0.false,
       rw (
         room_front _ _ _ pre.fits c.shifted_entries.ensures c.lifted_claims.ensures,
@@ -28,5 +27,5 @@ check_vectors-requires c = let counts : Counts c.args.setting = c.requires.passe
     )
 
 pub returns : goal.returns
-returns c =         check_rows _ _ _ refl (passes_of _ _ c.requires.passed) c.read_list-listed.ensures c.if-listed-ne0.false
+returns c = check_rows _ _ _ refl (passes_of _ _ c.requires.passed) c.read_list-listed.ensures c.if-listed-ne0.false
     c.check_vectors.ensures

@@ -1,14 +1,8 @@
 -- The loop keeps: all rows are balanced for the vectors before this one, and the answer counts their products. The lists keep their length.
 use Prim.Native.Nat.{◌-◌}
-use native.Mathlib.Omega.{arith}
-use borrow.Author.Rules.{rules}
-use mathlib.Core.Path.{ap, ◌∙◌}
-use Rattle.ticket.specs.Rules.{answer}
 use Rattle.ticket.specs.Laws.Runs.{RunTo}
-use Rattle.ticket.proofs.Laws.Runs.{run_none, run_next, run_stopped, run_ended}
 use Rattle.challenge.specs.Laws.Sides.{RoomFor}
 use Rattle.challenge.specs.Laws.Vectors.{vector_steps}
-use Rattle.challenge.proofs.Laws.Vectors.{vectors_answer, vector_ready}
 use Rattle.challenge.proofs.rows.check_vectors.Given as goal
 
 abbrev pub invariant-loop-t : goal.invariant-loop-t

@@ -1,6 +1,3 @@
-use native.Mathlib.Omega.{arith}
-use borrow.Author.Rules.{rules}
-use Rattle.residue.proofs.Laws.Products.{product_below}
 use Rattle.challenge.proofs.Laws.Products.{dot_none}
 use Rattle.challenge.proofs.rows.row_bias.Goals as goal
 

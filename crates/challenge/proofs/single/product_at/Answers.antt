@@ -1,5 +1,4 @@
 use native.Mathlib.Omega.{arith}
-use borrow.Author.Rules.{rules}
 use Rattle.challenge.proofs.Laws.Single.{line_matrix, product_first, product_later}
 use Rattle.challenge.proofs.single.product_at.Goals as goal
 
@@ -10,5 +9,5 @@ pub product-requires : goal.product-requires
 product-requires c = search line_matrix
 
 pub returns : goal.returns
-returns c =                 product_first c.requires c.part.ensures c.product.ensures (omega (arith, c.requires.passed.counts.sizes))
+returns c = product_first c.requires c.part.ensures c.product.ensures (omega (arith, c.requires.passed.counts.sizes))
     c.narrow.ensures c.if-row-ne0.false

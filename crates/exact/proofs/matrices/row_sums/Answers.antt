@@ -1,7 +1,4 @@
-use Rattle.std.proofs.Common.{◌≡◌, ◌-◌, ◌*◌, ◌≤◌, length, ap, ◌∙◌, inl, inr, arith, rules}
-use Rattle.algebra.specs.Laws.Fills.{Filled, line_at}
-use Rattle.algebra.proofs.Laws.Fills.{filled_none, filled_more, line_from}
-use Rattle.exact.specs.Rules.{dot_product}
+use Rattle.std.proofs.Common.{inl, inr, arith}
 use Rattle.exact.proofs.Laws.Matrices.{row_sums_ended}
 use Rattle.exact.proofs.matrices.row_sums.Goals as goal
 

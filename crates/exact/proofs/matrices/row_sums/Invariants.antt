@@ -1,9 +1,7 @@
 -- The loop keeps the first j sums in the list, and in `start` where column j begins.
-use Rattle.std.proofs.Common.{◌≡◌, ◌-◌, ◌*◌, ◌≤◌, length, ap, ◌∙◌, inl, inr, arith, rules}
+use Rattle.std.proofs.Common.{◌≡◌, ◌-◌, ◌*◌, ◌≤◌, length}
 use Rattle.algebra.specs.Laws.Fills.{Filled, line_at}
-use Rattle.algebra.proofs.Laws.Fills.{filled_none, filled_more, line_from}
 use Rattle.exact.specs.Rules.{dot_product}
-use Rattle.exact.proofs.Laws.Matrices.{row_sums_ended}
 use Rattle.exact.proofs.matrices.row_sums.Given as goal
 
 abbrev pub invariant-loop-j : goal.invariant-loop-j

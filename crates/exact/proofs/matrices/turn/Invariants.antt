@@ -1,8 +1,6 @@
 -- The loop keeps the numbers of the rows before this one at their places.
-use Rattle.std.proofs.Common.{◌-◌, ◌*◌, ◌≤◌, refl, ⊎_elim, mul-le-mul_right, add-mul, one-mul, zero-mul, arith}
-use Rattle.residue.proofs.Laws.Products.{product_below}
+use Rattle.std.proofs.Common.{◌-◌, ◌*◌, ◌≤◌}
 use Rattle.exact.specs.Laws.Matrices.{TurnedTo}
-use Rattle.exact.proofs.Laws.Matrices.{turned_none, turned_all}
 use Rattle.exact.proofs.matrices.turn.Given as goal
 
 abbrev pub invariant-loop-row : goal.invariant-loop-row

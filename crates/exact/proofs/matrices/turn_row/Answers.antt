@@ -1,6 +1,4 @@
-use Rattle.std.proofs.Common.{◌≡◌, ◌+◌, ◌-◌, ◌*◌, ◌≤◌, refl, add-zero, arith, to_z-of_z, w16}
-use Rattle.algebra.proofs.Laws.Positions.{row_inside}
-use Rattle.exact.specs.Laws.Matrices.{TurnedFurther}
+use Rattle.std.proofs.Common.{arith, to_z-of_z, w16}
 use Rattle.exact.proofs.Laws.Matrices.{turned_further}
 use Rattle.exact.proofs.matrices.turn_row.Goals as goal
 

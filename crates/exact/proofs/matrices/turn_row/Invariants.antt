@@ -1,8 +1,6 @@
 -- The loop keeps the numbers of the rows before, and the first ones of this row, at their places, and in `at` the place of the next.
-use Rattle.std.proofs.Common.{◌≡◌, ◌+◌, ◌-◌, ◌*◌, ◌≤◌, refl, add-zero, arith, to_z-of_z, w16}
-use Rattle.algebra.proofs.Laws.Positions.{row_inside}
+use Rattle.std.proofs.Common.{◌≡◌, ◌+◌, ◌-◌, ◌*◌, ◌≤◌}
 use Rattle.exact.specs.Laws.Matrices.{TurnedFurther}
-use Rattle.exact.proofs.Laws.Matrices.{turned_further}
 use Rattle.exact.proofs.matrices.turn_row.Given as goal
 
 abbrev pub invariant-loop-column : goal.invariant-loop-column

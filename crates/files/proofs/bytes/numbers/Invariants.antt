@@ -1,8 +1,6 @@
 -- The loop keeps the first k words in the list.
 use Prim.Native.Nat.{◌+◌, ◌-◌, ◌*◌, ◌≤◌}
-use native.Mathlib.Omega.{arith}
 use Rattle.algebra.specs.Laws.Fills.{Filled}
-use Rattle.algebra.proofs.Laws.Fills.{filled_none, filled_more}
 use Rattle.files.specs.Rules.{number_bytes, word_at}
 use Rattle.files.specs.Laws.Numbers.{most_numbers}
 use Rattle.files.proofs.bytes.numbers.Given as goal

@@ -1,4 +1,3 @@
-use borrow.Author.Rules.{rules}
 use Rattle.files.specs.Rules.{setting_of}
 use Rattle.files.proofs.bytes.setting_of.Goals as goal
 

@@ -1,4 +1,3 @@
-use borrow.Author.Rules.{rules}
 use Rattle.files.specs.Rules.{word_at}
 use Rattle.files.proofs.bytes.word_at.Goals as goal
 

@@ -1,4 +1,4 @@
-use Rattle.std.proofs.Common.{rules, arith}
+use Rattle.std.proofs.Common.{arith}
 use Rattle.files.proofs.Laws.Lines.{digit_room, length_longer, put_digit, put_digits}
 use Rattle.files.proofs.text.+put_number.Goals as goal
 

@@ -1,4 +1,3 @@
-use borrow.Author.Rules.{rules}
 use Rattle.files.proofs.Laws.Lines.{put_line}
 use Rattle.files.proofs.text.line.Goals as goal
 

@@ -1,5 +1,4 @@
 use native.Mathlib.Omega.{arith}
-use borrow.Author.Rules.{rules}
 use Rattle.files.proofs.Laws.Lines.{number_short, put_end}
 use Rattle.files.proofs.text.put_field.Goals as goal
 

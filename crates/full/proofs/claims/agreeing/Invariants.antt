@@ -1,7 +1,5 @@
 -- The loop keeps that the first j sums are what is claimed for them.
-use Rattle.std.proofs.Common.{◌≡◌, ℕ, ◌-◌, ◌<◌, ◌≤◌, true, length, sym, ◌∙◌, arith, rules, below_more, eq-eqb, ne_eqb}
-use Rattle.ticket.proofs.Laws.All.{all_at}
-use Rattle.ticket.proofs.Laws.First.{first_none, first_is}
+use Rattle.std.proofs.Common.{◌≡◌, ℕ, ◌-◌, ◌<◌, ◌≤◌, true, length}
 use Rattle.full.specs.Laws.Sums.{claimed_for}
 use Rattle.full.proofs.claims.agreeing.Given as goal
 

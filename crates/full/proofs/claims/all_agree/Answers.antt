@@ -1,11 +1,9 @@
-use Rattle.std.proofs.Common.{◌≡◌, ◌-◌, ◌≤◌, length, arith, rules}
-use Rattle.ticket.specs.Laws.All.{all}
+use Rattle.std.proofs.Common.{arith}
 use Rattle.ticket.proofs.Laws.All.{all_none, all_next}
-use Rattle.full.specs.Laws.Sums.{claimed_for}
 use Rattle.full.proofs.claims.all_agree.Goals as goal
 
 pub loop-k-init : goal.loop-k-init
 loop-k-init c = (omega arith, all_none _)
 
 pub loop-k-preserved : goal.loop-k-preserved
-loop-k-preserved c =     (omega arith, all_next c.loop-k.k _ c.loop-k.invariant.1 (rw c.wrapping_add_u32.ensures.value))
+loop-k-preserved c = (omega arith, all_next c.loop-k.k _ c.loop-k.invariant.1 (rw c.wrapping_add_u32.ensures.value))

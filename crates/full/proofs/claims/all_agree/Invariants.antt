@@ -1,7 +1,6 @@
 -- The loop keeps in `all` whether the first k sums are what is claimed for them.
-use Rattle.std.proofs.Common.{◌≡◌, ◌-◌, ◌≤◌, length, arith, rules}
+use Rattle.std.proofs.Common.{◌≡◌, ◌-◌, ◌≤◌, length}
 use Rattle.ticket.specs.Laws.All.{all}
-use Rattle.ticket.proofs.Laws.All.{all_none, all_next}
 use Rattle.full.specs.Laws.Sums.{claimed_for}
 use Rattle.full.proofs.claims.all_agree.Given as goal
 

@@ -1,10 +1,7 @@
 -- The loop keeps that the sums of the rows before this one agree with their claims, with the answer so far.
-use Rattle.std.proofs.Common.{◌≡◌, ◌-◌, ◌*◌, ◌≤◌, length, refl, ap, ◌∙◌, mul-le-mul_right, arith, rules}
-use Rattle.ticket.specs.Rules.{answer}
+use Rattle.std.proofs.Common.{◌≡◌, ◌-◌, ◌*◌, ◌≤◌, length}
 use Rattle.ticket.specs.Laws.Runs.{RunTo}
-use Rattle.ticket.proofs.Laws.Runs.{run_none, run_ended, run_at}
 use Rattle.full.specs.Laws.Sums.{sum_steps}
-use Rattle.full.proofs.Laws.Sums.{sum_row_ready}
 use Rattle.full.proofs.claims.compare.Given as goal
 
 abbrev pub invariant-loop-row : goal.invariant-loop-row

@@ -1,4 +1,4 @@
-use Rattle.std.proofs.Common.{◌*◌, ◌≤◌, arith, rules}
+use Rattle.std.proofs.Common.{◌*◌, ◌≤◌, arith}
 use Rattle.full.proofs.Laws.Sums.{few_agree, row_untrue, row_true}
 use Rattle.full.proofs.claims.compare_row.Goals as goal
 

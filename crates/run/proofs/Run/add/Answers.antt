@@ -1,4 +1,3 @@
-use borrow.Author.Rules.{rules}
 use mathlib.Core.Path.{refl, sym, ap, ◌∙◌}
 use Rattle.run.specs.Rules.{standing}
 use Rattle.run.specs.Laws.Additions.{Additional}

@@ -1,6 +1,5 @@
 use mathlib.Core.Path.{ap}
 use mathlib.Core.Bool.{◌||◌}
-use borrow.Author.Rules.{rules}
 use lib.Dec.{ltb}
 use Rattle.run.specs.Rules.{is_caught}
 use Rattle.run.proofs.Run.is_finished.Goals as goal

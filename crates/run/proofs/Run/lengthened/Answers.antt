@@ -3,7 +3,7 @@ use borrow.Author.Rules.{rules}
 use mathlib.Core.Path.{◌≡◌}
 use lib.ListN.{length}
 use Rattle.run.specs.Rules.{most_numbers}
-use Rattle.run.proofs.Laws.Additions.{vectors_few, addition_fits, lengthened_made}
+use Rattle.run.proofs.Laws.Additions.{addition_fits}
 use Rattle.run.proofs.Run.lengthened.Goals as goal
 
 pub put-requires : goal.put-requires

@@ -1,5 +1,5 @@
 use borrow.Author.Rules.{rules}
-use mathlib.Core.Path.{◌≡◌, sym, ap, ◌∙◌}
+use mathlib.Core.Path.{◌≡◌, ap, ◌∙◌}
 use Rattle.ticket.specs.Rules.{after, refusal, setting_number}
 use Rattle.ticket.specs.Laws.Vectors.{vectored}
 use Rattle.challenge.specs.Rules.{list_reading}

@@ -1,9 +1,7 @@
-use native.Mathlib.Omega.{arith}
-use borrow.Author.Rules.{rules}
 use mathlib.Core.Path.{sym, ap, ◌∙◌}
 use Rattle.ticket.specs.Rules.{plain}
 use Rattle.run.specs.Rules.{products_done}
-use Rattle.run.proofs.Laws.States.{DoneSmall, done_small, done_none, done_some}
+use Rattle.run.proofs.Laws.States.{done_none, done_some}
 use Rattle.run.proofs.answers.products_done.Goals as goal
 
 pub returns-then-rows-eq0 : goal.returns-then-rows-eq0

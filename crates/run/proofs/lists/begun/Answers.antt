@@ -1,5 +1,3 @@
-use native.Mathlib.Omega.{arith}
-use borrow.Author.Rules.{rules}
 use Rattle.run.proofs.Laws.Additions.{begun_made}
 use Rattle.run.proofs.lists.begun.Goals as goal
 

@@ -1,10 +1,7 @@
 -- The loop keeps: the first k numbers of the list are those copied.
 use Prim.Native.Nat.{◌-◌, ◌≤◌}
-use native.Mathlib.Omega.{arith}
-use mathlib.Core.Path.{refl}
 use lib.ListN.{length, get_or}
 use Rattle.algebra.specs.Laws.Fills.{Filled}
-use Rattle.algebra.proofs.Laws.Fills.{filled_none, filled_more, filled_all}
 use Rattle.run.proofs.lists.copy.Given as goal
 
 abbrev pub invariant-loop-k : goal.invariant-loop-k

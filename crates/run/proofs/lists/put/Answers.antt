@@ -1,4 +1,3 @@
-use borrow.Author.Rules.{rules}
 use Rattle.run.proofs.Laws.Additions.{put_list}
 use Rattle.run.proofs.lists.put.Goals as goal
 

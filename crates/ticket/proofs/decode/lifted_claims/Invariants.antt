@@ -1,9 +1,7 @@
 -- The loop keeps what the claims before c put for their sums in the list, lifted.
-use Rattle.std.proofs.Common.{◌-◌, ◌≤◌, ◌∙◌, arith, rules}
+use Rattle.std.proofs.Common.{◌-◌, ◌≤◌}
 use Rattle.algebra.specs.Laws.Fills.{Filled}
-use Rattle.algebra.proofs.Laws.Fills.{filled_none, filled_more}
 use Rattle.ticket.specs.Laws.Decodes.{lifted_at}
-use Rattle.ticket.proofs.Laws.Decodes.{filled_to}
 use Rattle.ticket.proofs.decode.lifted_claims.Given as goal
 
 abbrev pub invariant-loop-c : goal.invariant-loop-c

@@ -1,4 +1,4 @@
-use Rattle.std.proofs.Common.{arith, rules}
+use Rattle.std.proofs.Common.{arith}
 use Rattle.residue.proofs.Laws.Modulo.{carried_words}
 use Rattle.residue.proofs.Laws.Modulus.{modulus_above, modulus_below}
 use Rattle.ticket.proofs.decode.shifted.Goals as goal
@@ -10,4 +10,4 @@ pub nonzero_div-value : goal.nonzero_div-value
 nonzero_div-value c = omega (arith, modulus_above, c.modulus-wrap.ensures)
 
 pub returns : goal.returns
-returns c =     rw (c.wrapping_add_u32.ensures.value, c.wrapping_add_u32-sum.ensures.value, c.modulus-wrap.ensures) (carried_words _ _ _)
+returns c = rw (c.wrapping_add_u32.ensures.value, c.wrapping_add_u32-sum.ensures.value, c.modulus-wrap.ensures) (carried_words _ _ _)

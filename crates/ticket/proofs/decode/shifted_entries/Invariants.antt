@@ -1,9 +1,7 @@
 -- The loop keeps the values of the records before k in the list, each with the shift added.
-use Rattle.std.proofs.Common.{◌-◌, ◌≤◌, ◌∙◌, arith, rules}
+use Rattle.std.proofs.Common.{◌-◌, ◌≤◌}
 use Rattle.algebra.specs.Laws.Fills.{Filled}
-use Rattle.algebra.proofs.Laws.Fills.{filled_none, filled_more}
 use Rattle.ticket.specs.Laws.Decodes.{shifted_at}
-use Rattle.ticket.proofs.Laws.Decodes.{filled_to}
 use Rattle.ticket.proofs.decode.shifted_entries.Given as goal
 
 abbrev pub invariant-loop-k : goal.invariant-loop-k

@@ -1,5 +1,4 @@
-use Rattle.std.proofs.Common.{rules, le-leb}
-use borrow.Author.Tests.{lt-leb}
+use Rattle.std.proofs.Common.{le-leb}
 use Rattle.ticket.specs.Rules.{value_at}
 use Rattle.ticket.proofs.parts.value.Goals as goal
 

@@ -1,4 +1,4 @@
-use Rattle.std.proofs.Common.{arith, rules}
+use Rattle.std.proofs.Common.{arith}
 use Rattle.residue.proofs.Laws.Modulus.{modulus_below}
 use Rattle.ticket.proofs.records.entries_form.Goals as goal
 

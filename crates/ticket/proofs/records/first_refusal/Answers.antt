@@ -1,12 +1,10 @@
-use Rattle.std.proofs.Common.{◌≡◌, ℕ, ◌-◌, ◌<◌, ◌≤◌, sym, arith}
-use Rattle.algebra.proofs.Laws.Positions.{Position, position_none, position_within, position_next, position_row}
-use Rattle.ticket.specs.Laws.Forms.{tested}
-use Rattle.ticket.proofs.Laws.Forms.{scanned_refused, scanned_next}
+use Rattle.std.proofs.Common.{sym, arith}
+use Rattle.ticket.proofs.Laws.Forms.{scanned_refused}
 use Rattle.ticket.proofs.Laws.Scans.{refusal_none}
 use Rattle.ticket.proofs.records.first_refusal.Goals as goal
 
 pub returns-then-number-ne0 : goal.returns-then-number-ne0
-returns-then-number-ne0 c =     let inv = c.loop-i.invariant in
+returns-then-number-ne0 c = let inv = c.loop-i.invariant in
     scanned_refused _ _ inv.1 c.record_number-number.ensures inv.2 _ _ (omega arith) c.if-number-ne0.true
 
 pub returns : goal.returns

@@ -1,9 +1,7 @@
 -- The loop keeps that the records before i pass, and that record i stands in its row and column.
-use Rattle.std.proofs.Common.{◌≡◌, ℕ, ◌-◌, ◌<◌, ◌≤◌, sym, arith}
-use Rattle.algebra.proofs.Laws.Positions.{Position, position_none, position_within, position_next, position_row}
+use Rattle.std.proofs.Common.{◌≡◌, ℕ, ◌-◌, ◌<◌, ◌≤◌}
+use Rattle.algebra.proofs.Laws.Positions.{Position}
 use Rattle.ticket.specs.Laws.Forms.{tested}
-use Rattle.ticket.proofs.Laws.Forms.{scanned_refused, scanned_next}
-use Rattle.ticket.proofs.Laws.Scans.{refusal_none}
 use Rattle.ticket.proofs.records.first_refusal.Given as goal
 
 abbrev pub invariant-loop-i : goal.invariant-loop-i

@@ -1,4 +1,4 @@
-use Rattle.std.proofs.Common.{◌≡◌, arith, rules}
+use Rattle.std.proofs.Common.{◌≡◌, arith}
 use Rattle.ticket.proofs.Laws.Limits.{bias_columns_most, half_small}
 use Rattle.ticket.proofs.Laws.Parts.{bounds_small, forms_make}
 use Rattle.ticket.proofs.records.form_of.Goals as goal
@@ -10,13 +10,13 @@ pub returns-then-part-eq1 : goal.returns-then-part-eq1
 returns-then-part-eq1 c = rw (c.if-part-eq1.true, c.entries_form-then-part-eq1.ensures) (forms_make c.requires.0).1
 
 pub overflow_cast-width : goal.overflow_cast-width
-overflow_cast-width c =     omega (arith, c.bias_columns-width.ensures, bias_columns_most c.args.setting, c.requires.0.sizes.columns)
+overflow_cast-width c = omega (arith, c.bias_columns-width.ensures, bias_columns_most c.args.setting, c.requires.0.sizes.columns)
 
 pub entries_form-requires-then-part-eq2 : goal.entries_form-requires-then-part-eq2
 entries_form-requires-then-part-eq2 c = rw c.largest_bias.ensures (bounds_small c.requires.0).1
 
 pub returns-then-part-eq2 : goal.returns-then-part-eq2
-returns-then-part-eq2 c =     rw (c.if-part-eq2.true, c.entries_form-then-part-eq2.ensures, c.bias_columns-width.ensures, c.largest_bias.ensures)
+returns-then-part-eq2 c = rw (c.if-part-eq2.true, c.entries_form-then-part-eq2.ensures, c.bias_columns-width.ensures, c.largest_bias.ensures)
     (forms_make c.requires.0).2
 
 pub overflow_mul-result : goal.overflow_mul-result
@@ -26,5 +26,5 @@ pub returns-then-part-eq3 : goal.returns-then-part-eq3
 returns-then-part-eq3 c = rw (c.if-part-eq3.true, c.requires.2) (forms_make c.requires.0).3
 
 pub returns : goal.returns
-returns c =     let last : c.args.which.0 ≡ 4 = omega arith in
+returns c = let last : c.args.which.0 ≡ 4 = omega arith in
     rw last (forms_make c.requires.0).4

@@ -1,6 +1,6 @@
-use Rattle.std.proofs.Common.{arith, rules}
+use Rattle.std.proofs.Common.{arith}
 use Rattle.ticket.proofs.Laws.Passing.{range_by}
 use Rattle.ticket.proofs.records.in_range.Goals as goal
 
 pub returns : goal.returns
-returns c =         λ l. rw c.modulus.ensures (range_by _ c.requires _ _ l (omega arith) c.wrapping_sub_u32.ensures.value)
+returns c = λ l. rw c.modulus.ensures (range_by _ c.requires _ _ l (omega arith) c.wrapping_sub_u32.ensures.value)

@@ -1,4 +1,4 @@
-use Rattle.std.proofs.Common.{◌≡◌, sym, ap, ◌∙◌, rules}
+use Rattle.std.proofs.Common.{◌≡◌, sym, ap, ◌∙◌}
 use Rattle.ticket.specs.Rules.{refusal, half_range, setting_number, setting_tests, ticket_length, reading}
 use Rattle.ticket.specs.Laws.Tests.{AllHold}
 use Rattle.ticket.specs.Laws.Limits.{clamped}
@@ -33,4 +33,4 @@ pub returns : goal.returns
 returns c = let number : c.number_of-number.result ≡ setting_number c.args.setting = c.number_of-number.ensures ∙ number_by_lem _ c.half-half.ensures in
     let holds : AllHold (setting_tests c.args.setting) = setting_holds c.args.setting (sym (number) ∙ c.if-number-ne0.false) in
     let long : c.length.result ≡ ticket_length c.args.setting = let limits = limits_of _ (holds) in c.length.ensures ∙ ap ticket_length (clamped_same limits.sizes limits.numbers) in
-        c.read_records.ensures ∙ sym (records_read _ _ (holds) (c.if-ticket-length.false ∙ long))
+    c.read_records.ensures ∙ sym (records_read _ _ (holds) (c.if-ticket-length.false ∙ long))

@@ -1,7 +1,4 @@
-use Rattle.std.proofs.Common.{arith, rules}
-use Rattle.ticket.specs.Laws.Forms.{Holds}
-use Rattle.ticket.specs.Laws.Parts.{PartReady, form_bytes}
-use Rattle.ticket.proofs.Laws.Parts.{part_empty, part_holds}
+use Rattle.ticket.proofs.Laws.Parts.{part_empty}
 use Rattle.ticket.proofs.Laws.Passing.{passed_part}
 use Rattle.ticket.proofs.records.read_part.Goals as goal
 

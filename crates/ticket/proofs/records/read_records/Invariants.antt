@@ -1,9 +1,7 @@
 -- The loop keeps that the records of the parts before this one pass, and where this one starts.
-use Rattle.std.proofs.Common.{◌≡◌, ◌-◌, ◌≤◌, sym, ◌∙◌, arith, rules}
+use Rattle.std.proofs.Common.{◌≡◌, ◌-◌, ◌≤◌}
 use Rattle.ticket.specs.Rules.{start}
-use Rattle.ticket.specs.Laws.Parts.{PartReady}
-use Rattle.ticket.proofs.Laws.Parts.{ReadTo, part_read, part_ready, part_answer_lem, part_end, read_none, read_next, read_refused, read_all}
-use Rattle.ticket.proofs.Laws.Layout.{start_none}
+use Rattle.ticket.proofs.Laws.Parts.{ReadTo}
 use Rattle.ticket.proofs.records.read_records.Given as goal
 
 abbrev pub invariant-loop-which : goal.invariant-loop-which

@@ -1,7 +1,5 @@
-use Rattle.std.proofs.Common.{◌≡◌, ◌+◌, ◌-◌, ◌≤◌, ◌∙◌, arith}
-use Rattle.ticket.specs.Laws.All.{all}
+use Rattle.std.proofs.Common.{◌∙◌, arith}
 use Rattle.ticket.proofs.Laws.All.{all_none, all_next}
-use Rattle.ticket.specs.Laws.Passing.{row_passing}
 use Rattle.ticket.proofs.records.row_passes.Goals as goal
 
 pub loop-column-init : goal.loop-column-init

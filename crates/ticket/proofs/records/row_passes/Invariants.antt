@@ -1,7 +1,6 @@
 -- The loop keeps whether the records of the row before this column pass.
-use Rattle.std.proofs.Common.{◌≡◌, ◌+◌, ◌-◌, ◌≤◌, ◌∙◌, arith}
+use Rattle.std.proofs.Common.{◌≡◌, ◌+◌, ◌-◌, ◌≤◌}
 use Rattle.ticket.specs.Laws.All.{all}
-use Rattle.ticket.proofs.Laws.All.{all_none, all_next}
 use Rattle.ticket.specs.Laws.Passing.{row_passing}
 use Rattle.ticket.proofs.records.row_passes.Given as goal
 

@@ -1,6 +1,4 @@
-use Rattle.std.proofs.Common.{arith, rules}
-use Rattle.residue.proofs.Laws.Modulus.{modulus_above}
-use Rattle.writer.proofs.Laws.Claims.{half_low, quotient_low, quotient_high, remainder_made}
+use Rattle.writer.proofs.Laws.Claims.{quotient_low, quotient_high, remainder_made}
 use Rattle.writer.proofs.claims.divide.Goals as goal
 
 pub returns-then-shifted-half : goal.returns-then-shifted-half

@@ -1,4 +1,3 @@
-use Rattle.std.proofs.Common.{rules}
 use Rattle.writer.proofs.Laws.Rows.{tiny_room, most_room, most_entries}
 use Rattle.writer.proofs.claims.write_claims.Goals as goal
 

@@ -1,14 +1,11 @@
-use Rattle.std.proofs.Common.{◌≡◌, ◌+◌, ◌-◌, ◌*◌, ◌^◌, ◌<◌, ◌≤◌, length, ◌∙◌, arith, rules}
-use Rattle.algebra.specs.Rules.{word}
-use Rattle.ticket.specs.Rules.{record_bytes}
-use Rattle.writer.specs.Laws.Rows.{RowTo}
-use Rattle.writer.proofs.Laws.Rows.{row_none, row_claim}
+use Rattle.std.proofs.Common.{◌≡◌, ◌∙◌, arith, rules}
+use Rattle.writer.proofs.Laws.Rows.{row_claim}
 use Rattle.writer.proofs.claims.write_row.Goals as goal
 
 pub loop-column-preserved : goal.loop-column-preserved
 loop-column-preserved c =
     let second = c.write_record-in-loop-column.ensures in
-        let so_far = c.loop-column.invariant in
+    let so_far = c.loop-column.invariant in
     let claimed = rw c.with_bias-sum.ensures at c.divide-claim.ensures in (
       search rules,
       second.long ∙ c.write_record.ensures.long ∙ so_far.1,

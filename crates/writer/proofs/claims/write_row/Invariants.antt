@@ -1,9 +1,7 @@
 -- The loop keeps the first claims of the row in the output, and the first words of the next two records.
-use Rattle.std.proofs.Common.{◌≡◌, ◌+◌, ◌-◌, ◌*◌, ◌^◌, ◌<◌, ◌≤◌, length, ◌∙◌, arith, rules}
+use Rattle.std.proofs.Common.{◌≡◌, ◌-◌, ◌≤◌, length}
 use Rattle.algebra.specs.Rules.{word}
-use Rattle.ticket.specs.Rules.{record_bytes}
 use Rattle.writer.specs.Laws.Rows.{RowTo}
-use Rattle.writer.proofs.Laws.Rows.{row_none, row_claim}
 use Rattle.writer.proofs.claims.write_row.Given as goal
 
 abbrev pub invariant-loop-column : goal.invariant-loop-column

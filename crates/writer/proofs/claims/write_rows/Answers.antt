@@ -1,10 +1,8 @@
-use Rattle.std.proofs.Common.{◌≡◌, ◌+◌, ◌-◌, ◌*◌, ◌^◌, ◌<◌, length, sym, ◌∙◌, arith, rules}
-use Rattle.residue.proofs.Laws.Products.{product_below}
+use Rattle.std.proofs.Common.{◌+◌, ◌*◌, ◌^◌, ◌<◌, length, ◌∙◌, arith}
 use Rattle.algebra.proofs.Laws.Fills.{part_long}
 use Rattle.writer.proofs.Laws.Entries.{limits, lift_fits, long_b, small_a, small_b}
 use Rattle.writer.proofs.Laws.Operands.{small_part}
-use Rattle.writer.specs.Laws.Rows.{ClaimsWrote}
-use Rattle.writer.proofs.Laws.Rows.{RowsAt, RowRoom, claims_early, rows_begun, row_room, row_ready, rows_none, rows_next, rows_more}
+use Rattle.writer.proofs.Laws.Rows.{RowRoom, claims_early, rows_begun, row_room, row_ready, rows_none, rows_next, rows_more}
 use Rattle.writer.proofs.claims.write_rows.Goals as goal
 
 pub overflow_cast-lift : goal.overflow_cast-lift
@@ -66,7 +64,7 @@ pub loop-row-preserved : goal.loop-row-preserved
 loop-row-preserved c =
     let more : c.loop-row.row < c.args.setting.rows = c.loop-row-test.true in
     let left = more in
-        let line = c.narrow.ensures in (
+    let line = c.narrow.ensures in (
       rows_next c.loop-row.invariant.0 left line.long c.row_sums.ensures.long,
       rows_more c.loop-row.invariant.0 left c.requires.writable line c.narrow_columns.ensures c.requires.long_columns
           c.row_sums.ensures c.loop-row.invariant.1 c.write_row.ensures,

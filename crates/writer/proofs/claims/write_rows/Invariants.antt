@@ -1,11 +1,7 @@
 -- The loop keeps the claims of the rows before this one in the output, and where its row of A and its records begin.
-use Rattle.std.proofs.Common.{◌≡◌, ◌+◌, ◌-◌, ◌*◌, ◌^◌, ◌<◌, length, sym, ◌∙◌, arith, rules}
-use Rattle.residue.proofs.Laws.Products.{product_below}
-use Rattle.algebra.proofs.Laws.Fills.{part_long}
-use Rattle.writer.proofs.Laws.Entries.{limits, lift_fits, long_b, small_a, small_b}
-use Rattle.writer.proofs.Laws.Operands.{small_part}
+use Rattle.std.proofs.Common.{◌-◌}
 use Rattle.writer.specs.Laws.Rows.{ClaimsWrote}
-use Rattle.writer.proofs.Laws.Rows.{RowsAt, RowRoom, claims_early, rows_begun, row_room, row_ready, rows_none, rows_next, rows_more}
+use Rattle.writer.proofs.Laws.Rows.{RowsAt}
 use Rattle.writer.proofs.claims.write_rows.Given as goal
 
 abbrev pub invariant-loop-row : goal.invariant-loop-row

@@ -1,4 +1,4 @@
-use Rattle.std.proofs.Common.{sym, arith, length-take-le, rules}
+use Rattle.std.proofs.Common.{arith, length-take-le}
 use Rattle.writer.proofs.Laws.Entries.{long_b}
 use Rattle.writer.proofs.claims.write_with.Goals as goal
 

@@ -1,7 +1,5 @@
-use Rattle.std.proofs.Common.{◌≡◌, ◌-◌, ◌≤◌, leb, length, ap, ◌∙◌, arith, rules}
-use Rattle.ticket.specs.Laws.All.{all}
+use Rattle.std.proofs.Common.{leb, ap, arith}
 use Rattle.ticket.proofs.Laws.All.{all_none, all_next}
-use Rattle.writer.specs.Laws.Operands.{within_at}
 use Rattle.writer.proofs.Laws.Operands.{size_read}
 use Rattle.writer.proofs.operands.all_within.Goals as goal
 

@@ -1,9 +1,7 @@
 -- The loop keeps whether the entries before k are within the bound.
-use Rattle.std.proofs.Common.{◌≡◌, ◌-◌, ◌≤◌, leb, length, ap, ◌∙◌, arith, rules}
+use Rattle.std.proofs.Common.{◌≡◌, ◌-◌, ◌≤◌, length}
 use Rattle.ticket.specs.Laws.All.{all}
-use Rattle.ticket.proofs.Laws.All.{all_none, all_next}
 use Rattle.writer.specs.Laws.Operands.{within_at}
-use Rattle.writer.proofs.Laws.Operands.{size_read}
 use Rattle.writer.proofs.operands.all_within.Given as goal
 
 abbrev pub invariant-loop-k : goal.invariant-loop-k

@@ -1,4 +1,4 @@
-use Rattle.std.proofs.Common.{sym, ap, ◌∙◌, rules}
+use Rattle.std.proofs.Common.{sym, ap, ◌∙◌}
 use Rattle.ticket.proofs.Laws.Scans.{after_passed, after_refused}
 use Rattle.writer.proofs.Laws.Operands.{beyond_both}
 use Rattle.writer.proofs.operands.entries.Goals as goal

@@ -1,5 +1,5 @@
-use Rattle.std.proofs.Common.{◌≡◌, ℕ, ◌-◌, ◌<◌, ◌≤◌, length, get_or, pos, nat_abs, sym, arith, rules}
-use Rattle.writer.proofs.Laws.Operands.{size_read, before_more, beyond_none, beyond_within, beyond_at}
+use Rattle.std.proofs.Common.{◌≡◌, get_or, pos, nat_abs, sym, arith}
+use Rattle.writer.proofs.Laws.Operands.{size_read, beyond_none, beyond_within, beyond_at}
 use Rattle.writer.proofs.operands.first_beyond.Goals as goal
 
 pub returns-then-all_within : goal.returns-then-all_within

@@ -1,6 +1,5 @@
 -- The loop keeps that no entry before k is beyond the bound.
-use Rattle.std.proofs.Common.{◌≡◌, ℕ, ◌-◌, ◌<◌, ◌≤◌, length, get_or, pos, nat_abs, sym, arith, rules}
-use Rattle.writer.proofs.Laws.Operands.{size_read, before_more, beyond_none, beyond_within, beyond_at}
+use Rattle.std.proofs.Common.{ℕ, ◌-◌, ◌<◌, ◌≤◌, length, get_or, pos, nat_abs}
 use Rattle.writer.proofs.operands.first_beyond.Given as goal
 
 abbrev pub invariant-loop-k : goal.invariant-loop-k

@@ -1,17 +1,12 @@
-use Rattle.std.proofs.Common.{◌≡◌, ◌+◌, ◌-◌, ◌*◌, ◌^◌, ◌<◌, ◌≤◌, length, get_or, ℤ, pos, nat_abs, ap, ◌∙◌, arith}
+use Rattle.std.proofs.Common.{◌≡◌, length, arith}
 use native.Mathlib.Decide.{dec_lt}
-use Rattle.residue.proofs.Laws.Signed.{narrowed_fits}
-use Rattle.algebra.specs.Laws.Fills.{Filled}
-use Rattle.algebra.proofs.Laws.Fills.{filled_none, filled_more}
-use Rattle.algebra.proofs.Laws.Positions.{position_of, position_within, row_inside}
-use Rattle.writer.specs.Laws.Operands.{column_of}
-use Rattle.writer.proofs.Laws.Operands.{narrow_stored}
+use Rattle.algebra.proofs.Laws.Positions.{row_inside}
 use Rattle.writer.proofs.operands.narrow.Goals as goal
 
 pub returns : goal.returns
 returns c =
     let loop = c.loop-at in
-        let n = length c.args.list.now in
+    let n = length c.args.list.now in
     let all : loop.k ≡ n = elim (dec_lt loop.k n) [
       | yes l ↦ absurd (omega (arith, row_inside c.args.width l, c.requires.long, c.requires.inside, c.loop-at-test.false))
       | no l ↦ omega arith

@@ -1,12 +1,7 @@
 -- The loop keeps the first k entries of the column in the list, and in `at` where entry k stands.
-use Rattle.std.proofs.Common.{◌≡◌, ◌+◌, ◌-◌, ◌*◌, ◌^◌, ◌<◌, ◌≤◌, length, get_or, ℤ, pos, nat_abs, ap, ◌∙◌, arith}
-use native.Mathlib.Decide.{dec_lt}
-use Rattle.residue.proofs.Laws.Signed.{narrowed_fits}
+use Rattle.std.proofs.Common.{◌≡◌, ◌+◌, ◌-◌, ◌*◌, ◌≤◌, length, pos}
 use Rattle.algebra.specs.Laws.Fills.{Filled}
-use Rattle.algebra.proofs.Laws.Fills.{filled_none, filled_more}
-use Rattle.algebra.proofs.Laws.Positions.{position_of, position_within, row_inside}
 use Rattle.writer.specs.Laws.Operands.{column_of}
-use Rattle.writer.proofs.Laws.Operands.{narrow_stored}
 use Rattle.writer.proofs.operands.narrow.Given as goal
 
 abbrev pub invariant-loop-at : goal.invariant-loop-at

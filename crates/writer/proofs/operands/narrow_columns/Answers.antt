@@ -1,9 +1,7 @@
-use Rattle.std.proofs.Common.{◌≡◌, ◌+◌, ◌-◌, ◌*◌, ◌≤◌, length, take, drop, pos, sym, ap, ◌∙◌, arith}
+use Rattle.std.proofs.Common.{◌≡◌, ◌+◌, ◌-◌, ◌≤◌, length, take, drop, pos, sym, ◌∙◌, arith}
 use lib.Arith.{digits_div, digits_mod}
-use Rattle.algebra.specs.Laws.Fills.{Filled}
-use Rattle.algebra.proofs.Laws.Fills.{filled_none, filled_part, part_replaced, part_long}
+use Rattle.algebra.proofs.Laws.Fills.{filled_part, part_replaced, part_long}
 use Rattle.algebra.proofs.Laws.Positions.{row_inside}
-use Rattle.exact.specs.Laws.Matrices.{turned_number}
 use Rattle.writer.proofs.operands.narrow_columns.Goals as goal
 
 pub loop-column-preserved : goal.loop-column-preserved

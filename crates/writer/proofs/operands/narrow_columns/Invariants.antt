@@ -1,9 +1,6 @@
 -- The loop keeps the columns before this one in the list, and in `start` where it begins.
-use Rattle.std.proofs.Common.{◌≡◌, ◌+◌, ◌-◌, ◌*◌, ◌≤◌, length, take, drop, pos, sym, ap, ◌∙◌, arith}
-use lib.Arith.{digits_div, digits_mod}
+use Rattle.std.proofs.Common.{◌≡◌, ◌-◌, ◌*◌, ◌≤◌, pos}
 use Rattle.algebra.specs.Laws.Fills.{Filled}
-use Rattle.algebra.proofs.Laws.Fills.{filled_none, filled_part, part_replaced, part_long}
-use Rattle.algebra.proofs.Laws.Positions.{row_inside}
 use Rattle.exact.specs.Laws.Matrices.{turned_number}
 use Rattle.writer.proofs.operands.narrow_columns.Given as goal
 

@@ -1,4 +1,4 @@
-use Rattle.std.proofs.Common.{◌≡◌, ◌+◌, ◌^◌, ◌<◌, ◌++◌, length, sym, ap, ◌∙◌, arith, length-append, rules}
+use Rattle.std.proofs.Common.{◌≡◌, ◌+◌, ◌^◌, ◌<◌, ◌++◌, length, sym, ap, ◌∙◌, arith, length-append}
 use Rattle.ticket.specs.Rules.{of_bias, start}
 use Rattle.ticket.proofs.Laws.Limits.{clamped_same, counts}
 use Rattle.ticket.proofs.Laws.Layout.{parts_are}

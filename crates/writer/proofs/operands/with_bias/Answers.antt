@@ -1,4 +1,4 @@
-use Rattle.std.proofs.Common.{◌<◌, length, ◌∙◌, arith, to_z-of_z, w32, rules}
+use Rattle.std.proofs.Common.{arith}
 use Rattle.writer.proofs.Laws.Operands.{no_bias_word}
 use Rattle.writer.proofs.operands.with_bias.Goals as goal
 

@@ -1,4 +1,3 @@
-use Rattle.std.proofs.Common.{arith, length-set, rules}
 use Rattle.writer.specs.Laws.Records.{words_of}
 use Rattle.writer.proofs.Laws.Records.{words_put}
 use Rattle.writer.proofs.records.put.Goals as goal

@@ -1,4 +1,4 @@
-use Rattle.std.proofs.Common.{◌≡◌, ◌^◌, ◌<◌, ℤ, pos, ◌+ℤ◌, arith, w32, to_z, of_z, rules}
+use Rattle.std.proofs.Common.{◌≡◌, ◌^◌, ◌<◌, ℤ, pos, ◌+ℤ◌, arith, w32, to_z, of_z}
 use Rattle.residue.specs.Rules.{modulus, least_residue}
 use Rattle.residue.proofs.Laws.Modulus.{modulus_below, modulus_positive}
 use Rattle.residue.proofs.Laws.Residues.{residue_below}

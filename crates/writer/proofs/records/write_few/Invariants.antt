@@ -1,10 +1,7 @@
 -- The loop keeps the records of the entries before k in the output, and the row and the column of entry k.
-use Rattle.std.proofs.Common.{◌≡◌, ◌+◌, ◌-◌, ◌^◌, ◌<◌, ◌≤◌, length, get_or, ℤ, pos, nat_abs, ap, ◌∙◌, arith, rules}
-use Rattle.residue.specs.Rules.{modulus, least_residue}
-use Rattle.algebra.proofs.Laws.Positions.{Position, position_none, position_next, position_row}
+use Rattle.std.proofs.Common.{◌≡◌, ◌-◌, ◌<◌, ◌≤◌, length}
+use Rattle.algebra.proofs.Laws.Positions.{Position}
 use Rattle.writer.specs.Laws.Lines.{OperandTo}
-use Rattle.writer.proofs.Laws.Lines.{operand_none, operand_record}
-use Rattle.writer.proofs.Laws.Operands.{entry_read}
 use Rattle.writer.proofs.records.write_few.Given as goal
 
 abbrev pub invariant-loop-k : goal.invariant-loop-k

@@ -1,11 +1,7 @@
-use Rattle.std.proofs.Common.{◌≡◌, ◌-◌, ◌^◌, ◌<◌, ◌≤◌, length, get_or, ℤ, pos, nat_abs, ap, ◌∙◌, arith, rules}
+use Rattle.std.proofs.Common.{◌^◌, ◌<◌, get_or, ℤ, pos, nat_abs, ap, ◌∙◌, arith, rules}
 use Rattle.residue.specs.Rules.{modulus, least_residue}
-use Rattle.algebra.specs.Rules.{word}
-use Rattle.writer.specs.Laws.Lines.{line_record}
 use Rattle.writer.proofs.Laws.Lines.{line_record_lem}
 use Rattle.writer.proofs.Laws.Operands.{entry_read}
-use Rattle.writer.specs.Laws.Writes.{Among, Wrote}
-use Rattle.writer.proofs.Laws.Writes.{wrote_none}
 use Rattle.writer.proofs.records.write_line.Goals as goal
 
 pub loop-column-preserved : goal.loop-column-preserved

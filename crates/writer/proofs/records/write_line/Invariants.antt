@@ -1,12 +1,8 @@
 -- The loop keeps the first records of the row in the output, and the first word of the next.
-use Rattle.std.proofs.Common.{◌≡◌, ◌-◌, ◌^◌, ◌<◌, ◌≤◌, length, get_or, ℤ, pos, nat_abs, ap, ◌∙◌, arith, rules}
-use Rattle.residue.specs.Rules.{modulus, least_residue}
+use Rattle.std.proofs.Common.{◌≡◌, ◌-◌, ◌≤◌, length}
 use Rattle.algebra.specs.Rules.{word}
 use Rattle.writer.specs.Laws.Lines.{line_record}
-use Rattle.writer.proofs.Laws.Lines.{line_record_lem}
-use Rattle.writer.proofs.Laws.Operands.{entry_read}
 use Rattle.writer.specs.Laws.Writes.{Among, Wrote}
-use Rattle.writer.proofs.Laws.Writes.{wrote_none}
 use Rattle.writer.proofs.records.write_line.Given as goal
 
 abbrev pub invariant-loop-column : goal.invariant-loop-column

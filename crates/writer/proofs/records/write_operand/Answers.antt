@@ -1,9 +1,7 @@
 use Rattle.std.proofs.Common.{◌≡◌, ◌+◌, ◌-◌, ◌*◌, ◌<◌, ◌≤◌, length, take, drop, sym, ap, ◌∙◌, arith}
 use Rattle.algebra.proofs.Laws.Fills.{part_long}
 use Rattle.algebra.proofs.Laws.Positions.{row_inside}
-use Rattle.writer.specs.Laws.Lines.{OperandTo}
-use Rattle.writer.proofs.Laws.Lines.{few_ready, operand_none, row_records}
-use Rattle.writer.proofs.Laws.Operands.{small_part}
+use Rattle.writer.proofs.Laws.Lines.{row_records}
 use Rattle.writer.proofs.records.write_operand.Goals as goal
 
 pub loop-row-preserved : goal.loop-row-preserved

@@ -1,10 +1,6 @@
 -- The loop keeps the records of the rows before this one in the output, and in `first` where it begins.
-use Rattle.std.proofs.Common.{◌≡◌, ◌+◌, ◌-◌, ◌*◌, ◌<◌, ◌≤◌, length, take, drop, sym, ap, ◌∙◌, arith}
-use Rattle.algebra.proofs.Laws.Fills.{part_long}
-use Rattle.algebra.proofs.Laws.Positions.{row_inside}
+use Rattle.std.proofs.Common.{◌≡◌, ◌-◌, ◌*◌, ◌≤◌, length}
 use Rattle.writer.specs.Laws.Lines.{OperandTo}
-use Rattle.writer.proofs.Laws.Lines.{few_ready, operand_none, row_records}
-use Rattle.writer.proofs.Laws.Operands.{small_part}
 use Rattle.writer.proofs.records.write_operand.Given as goal
 
 abbrev pub invariant-loop-row : goal.invariant-loop-row

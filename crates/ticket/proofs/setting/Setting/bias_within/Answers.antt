@@ -1,4 +1,3 @@
-use Rattle.std.proofs.Common.{rules}
 use Rattle.ticket.specs.Rules.{bias_within}
 use Rattle.ticket.proofs.setting.Setting.bias_within.Goals as goal
 

@@ -1,4 +1,4 @@
-use Rattle.std.proofs.Common.{◌∙◌, arith, rules}
+use Rattle.std.proofs.Common.{◌∙◌, arith}
 use Rattle.residue.proofs.Laws.Powers.{power_within}
 use Rattle.ticket.proofs.setting.Setting.half.Goals as goal
 

@@ -1,5 +1,4 @@
-use Rattle.std.proofs.Common.{◌≡◌, true, sym, ◌∙◌, rules}
-use borrow.Author.Tests.{not-true, not-false}
+use Rattle.std.proofs.Common.{◌≡◌, true, sym, ◌∙◌}
 use Rattle.ticket.specs.Rules.{sizes_within, numbers_within}
 use Rattle.ticket.specs.Laws.Limits.{number_by}
 use Rattle.ticket.proofs.Laws.Limits.{sizes_of, numbers_of}
@@ -23,7 +22,7 @@ pub returns : goal.returns
 unfolding number_by
 returns c = let sizes : sizes_within c.args.self ≡ true = sym c.sizes_within.ensures ∙ c.if-not-sizes_within.false in
     let numbers : numbers_within c.args.self ≡ true = sym c.numbers_within.ensures ∙ c.if-not-numbers_within.false in
-                            c.unless.ensures
+    c.unless.ensures
     ∙ rw (
       sizes,
       numbers,

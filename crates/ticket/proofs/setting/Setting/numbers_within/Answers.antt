@@ -1,4 +1,3 @@
-use Rattle.std.proofs.Common.{rules}
 use Rattle.ticket.specs.Rules.{scale_and_bound_within, numbers_within}
 use Rattle.ticket.proofs.setting.Setting.numbers_within.Goals as goal
 

@@ -1,4 +1,4 @@
-use Rattle.std.proofs.Common.{arith, rules}
+use Rattle.std.proofs.Common.{arith}
 use Rattle.ticket.specs.Laws.Limits.{clamped}
 use Rattle.ticket.proofs.Laws.Limits.{clamped_small}
 use Rattle.ticket.proofs.Laws.Layout.{parts_are}

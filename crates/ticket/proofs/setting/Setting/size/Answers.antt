@@ -1,4 +1,4 @@
-use Rattle.std.proofs.Common.{sym, arith, rules}
+use Rattle.std.proofs.Common.{sym, arith}
 use Rattle.ticket.proofs.Laws.Layout.{parts_are, size_claims, size_past}
 use Rattle.ticket.proofs.setting.Setting.size.Goals as goal
 
@@ -9,7 +9,7 @@ pub returns-then-part-eq1 : goal.returns-then-part-eq1
 returns-then-part-eq1 c = rw (c.if-part-eq1.true, c.clamped-s.ensures.0) (sym (parts_are _).size_b)
 
 pub returns-then-part-eq2 : goal.returns-then-part-eq2
-returns-then-part-eq2 c =     rw (c.if-part-eq2.true, c.bias_columns.ensures, c.clamped-s.ensures.0) (sym (parts_are _).size_bias)
+returns-then-part-eq2 c = rw (c.if-part-eq2.true, c.bias_columns.ensures, c.clamped-s.ensures.0) (sym (parts_are _).size_bias)
 
 pub returns-then-part-ge5 : goal.returns-then-part-ge5
 returns-then-part-ge5 c = sym (size_past _ (omega arith))

@@ -1,4 +1,3 @@
-use Rattle.std.proofs.Common.{rules}
 use Rattle.ticket.specs.Rules.{sizes_within}
 use Rattle.ticket.proofs.setting.Setting.sizes_within.Goals as goal
 

@@ -1,4 +1,4 @@
-use Rattle.std.proofs.Common.{arith, rules}
+use Rattle.std.proofs.Common.{arith}
 use Rattle.ticket.specs.Laws.Limits.{clamped, Clamped}
 use Rattle.ticket.proofs.Laws.Limits.{clamped_small}
 use Rattle.ticket.proofs.Laws.Layout.{PartsAre, parts_are, start_past}
@@ -42,4 +42,4 @@ returns-then-part-eq4 c = let known : PartsAre (clamped c.args.self) × Clamped 
 
 pub returns : goal.returns
 returns c = let known : PartsAre (clamped c.args.self) × Clamped (clamped c.args.self) = (parts_are _, clamped_small c.args.self) in
-        omega (arith, known, start_past (clamped c.args.self) {w = c.args.which.0} (omega arith))
+    omega (arith, known, start_past (clamped c.args.self) {w = c.args.which.0} (omega arith))
