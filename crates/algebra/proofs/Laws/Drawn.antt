@@ -8,7 +8,6 @@
 --   drawn_other                 where the zero vector is excluded, a vector is another list than n zeros
 --   drawn_exactly               with exactly b allowed numbers there are exactly (b ^ n) ^ s lists; without the zero vector (b ^ n - 1) ^ s
 --   drawn_with_zero             the first of these as one power; with n - 1 for n it is the bound of Soundness
---   drawn_no_more               without the zero vector there are no more
 --   drawn_share                 the bound of Soundness, b ^ s times, is no more than there are lists
 use Rattle.std.specs.Prelude.{ℕ, zero, suc, ◌+◌, ◌-◌, ◌*◌, ◌^◌, ◌≤◌, ◌<◌, ◌≡◌, refl, Bool, true, false, cond, length, get_or, replicate}
 use Rattle.std.proofs.Math.Nat.{sub-zero, pow-zero, pow-le-pow_left, one-le-pow}
@@ -18,8 +17,12 @@ use Rattle.std.proofs.lemmas.Bool.{false≢true}
 use mathlib.Core.List.{List, flatten}
 use Rattle.std.proofs.lemmas.List.{length-replicate, get_or-replicate}
 use Rattle.residue.proofs.Laws.Modulo.{pow_pow}
-use Rattle.residue.proofs.Laws.Counting.{Exactly, word_of_word, exactly_through, exactly_words, exactly_but_one}
-use Rattle.algebra.proofs.Laws.Vectors.{word_of_entries, entries_of_word, vector_same, cut, cut_word, cut_vectors, cut_apart, cut_flatten}
+use Rattle.residue.proofs.Laws.Counting.{Exactly, word_of_word}
+use Rattle.residue.proofs.Laws.Counting.ExactlyButOne.{exactly_through, exactly_words, exactly_but_one}
+use Rattle.algebra.proofs.Laws.Vectors.{word_of_entries, entries_of_word, vector_same, cut, cut_word, cut_vectors, cut_flatten}
+use Rattle.algebra.proofs.Laws.Vectors.CutApart.{cut_apart}
+
+pub mod DrawnNoMore
 
 pub record DrawnVector (n : ℕ) (P : ℕ → Type 0) (nonzero : Bool) (v : ℕ → ℕ) : Type 0 where
   pub allowed : (k : ℕ) → k < n → P (v k)
@@ -86,9 +89,6 @@ module _ {n : ℕ} {P : ℕ → Type 0} where
 
 pub drawn_with_zero : (b n s : ℕ) → (b ^ n - cond false 1 0) ^ s ≡ b ^ (s * n)
 drawn_with_zero b n s = ap (λ m. m ^ s) (sub-zero (b ^ n)) ∙ pow_pow b n s
-
-pub drawn_no_more : (b n s : ℕ) (nonzero : Bool) → (b ^ n - cond nonzero 1 0) ^ s ≤ b ^ (s * n)
-drawn_no_more b n s nonzero = rw (← drawn_with_zero b n s) (pow-le-pow_left (omega arith) s)
 
 -- a power of a product
 product_power : (a b s : ℕ) → a ^ s * b ^ s ≡ (a * b) ^ s

@@ -1,8 +1,7 @@
 -- Floor division over the integers, by the rule `floor_division`.
 --
 --   floor_left      the divisor times the quotient leaves a remainder from 0 to the divisor less 1
---   floor_unique    the quotient is the only integer that leaves one
---   floor_between   the dividend is at least the divisor times the quotient, and below the divisor times one more
+-- the parts of d q + r
 use Rattle.std.specs.Prelude.{ℕ, suc, ◌+◌, ◌-◌, ◌*◌, ◌/◌, ◌%◌, ◌≤◌, ◌<◌, ◌≡◌, ℤ, pos, negsuc, ◌+ℤ◌, ◌*ℤ◌, ◌≤ℤ◌, ◌<ℤ◌}
 use Rattle.std.proofs.Math.Nat.{div-add-mod}
 use Rattle.std.proofs.Common.{mod-lt, arith, sym, ap, ◌∙◌, le→leb, lt→ltb}
@@ -11,7 +10,8 @@ use Rattle.std.specs.Int.Signed.{le_z_yes, lt_z_yes}
 use Rattle.residue.proofs.Laws.Integers.{positive, negative, equal_of_parts, parts_sum, parts_product}
 use Rattle.algebra.specs.Rules.{floor_division}
 
--- the parts of d q + r
+pub mod FloorBetween
+
 parts_claim : (q : ℤ) (d r : ℕ)
     → positive (pos d *ℤ q +ℤ pos r) + d * negative q ≡ d * positive q + r + negative (pos d *ℤ q +ℤ pos r)
 parts_claim q d r = omega (arith, parts_sum (pos d *ℤ q) (pos r), parts_product (pos d) q)
@@ -34,26 +34,9 @@ same_quotient x y d r s l m e =
     omega (arith, parts_claim x d r, parts_claim y d s, ap positive e, ap negative e) in
     equal_of_parts x y (sym (digits_div a l) ∙ ap (λ n. n / d) same ∙ digits_div b m)
 
-pub floor_unique : (z q : ℤ) (d r : ℕ) → r < d → pos d *ℤ q +ℤ pos r ≡ z → q ≡ floor_division z d
-floor_unique z q d r l e =
-    let left = floor_left z d (omega arith) in
-    same_quotient q (floor_division z d) d r left.0 l left.1 (e ∙ sym left.2)
-
 order_of_parts : (x y : ℤ)
     → (positive x + negative y ≤ positive y + negative x → x ≤ℤ y) × (positive x + negative y < positive y + negative x → x <ℤ y)
 order_of_parts (pos a) (pos b) = (λ l. le_z_yes (le→leb a b (omega arith)), λ l. lt_z_yes (lt→ltb a b (omega arith)))
 order_of_parts (pos a) (negsuc b) = (λ l. absurd (omega arith), λ l. absurd (omega arith))
 order_of_parts (negsuc a) (pos b) = (λ l. le_z_yes tt, λ l. lt_z_yes tt)
 order_of_parts (negsuc a) (negsuc b) = (λ l. le_z_yes (le→leb b a (omega arith)), λ l. lt_z_yes (lt→ltb b a (omega arith)))
-
-pub floor_between : (z : ℤ) (d : ℕ) → 0 < d
-    → ((pos d *ℤ floor_division z d) ≤ℤ z) × (z <ℤ (pos d *ℤ (floor_division z d +ℤ pos 1)))
-floor_between z d above =
-    let q = floor_division z d in
-    let left = floor_left z d above in
-    let parts : positive z + d * negative q ≡ d * positive q + left.0 + negative z =
-    rw left.2 at (parts_claim q d left.0) in (
-      (order_of_parts (pos d *ℤ q) z).0 (omega (arith, parts_product (pos d) q)),
-      (order_of_parts z (pos d *ℤ (q +ℤ pos 1))).1
-          (omega (arith, parts_product (pos d) (q +ℤ pos 1), ap (λ n. d * n) (parts_sum q (pos 1)), left.1)),
-    )

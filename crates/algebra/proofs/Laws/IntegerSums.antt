@@ -12,8 +12,6 @@
 --   size_product         a product's size is the product of the sizes
 --   int_sum_bound           values of size up to b come to n * b at most
 --   residue_int_sum         the least residue of a sum, from the least residues of the values
---   residue_products     and of a row times a column
---   residue_dot          the least residue of a row times a vector of natural numbers
 use Prim.Native.Nat.{ℕ, zero, suc, ◌+◌, ◌*◌, ◌%◌, ◌≤◌, ◌<◌}
 use Rattle.std.proofs.Common.{add-zero, add-suc, arith, sym, ◌∙◌}
 use Rattle.std.proofs.Math.Nat.{mod-add-mod}
@@ -27,6 +25,8 @@ use Rattle.residue.proofs.Laws.Integers.{positive, negative, equal_of_parts, par
 use Rattle.residue.proofs.Laws.Residues.{residue_of_natural, residue_sum, residue_product}
 use Rattle.residue.proofs.Laws.Sums.{sum_none, sum_more, sum_cong, sum_mod, sum_mod_cong}
 use Rattle.algebra.specs.Rules.{int_sum}
+
+pub mod ResidueDot
 
 pub int_sum_none : (f : ℕ → ℤ) → int_sum 0 f ≡ pos 0
 unfolding int_sum
@@ -143,17 +143,3 @@ module _ (p : ℕ) (above : 0 < p) where
       ∙ ap (λ m. (m + least_residue p (f n)) % p) (residue_int_sum n f)
       ∙ mod-add-mod (sum n (λ i. least_residue p (f i))) p (least_residue p (f n))
       ∙ ap (λ m. m % p) (sym (rw add-one at (sum_more n (λ i. least_residue p (f i)))))
-
-  pub residue_products : (n : ℕ) (f g : ℕ → ℤ)
-      → least_residue p (int_sum n (λ j. f j *ℤ g j)) ≡ sum n (λ j. least_residue p (f j) * least_residue p (g j)) % p
-  residue_products n f g =
-      residue_int_sum n (λ j. f j *ℤ g j)
-      ∙ ap (λ m. m % p) (sum_cong n _ _ (λ j l. residue_product p above (f j) (g j)))
-      ∙ sum_mod n p (λ j. least_residue p (f j) * least_residue p (g j))
-
-  pub residue_dot : (n : ℕ) (f : ℕ → ℤ) (x : ℕ → ℕ)
-      → least_residue p (int_sum n (λ j. f j *ℤ pos (x j))) ≡ sum n (λ j. least_residue p (f j) * x j) % p
-  residue_dot n f x = residue_products n f (λ j. pos (x j)) ∙ sum_mod_cong n p _ _ (λ j l. reduced (least_residue p (f j)) (x j))
-    where
-      reduced : (a m : ℕ) → (a * least_residue p (pos m)) % p ≡ (a * m) % p
-      reduced a m = ap (λ k. a * k % p) (residue_of_natural p above m) ∙ sym (mod_mul_left p a (m % p)) ∙ mod_mul p a m

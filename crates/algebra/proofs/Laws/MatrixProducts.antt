@@ -5,7 +5,6 @@
 --   matrix_product_cong   equal rows and columns have equal products
 --   size_matrix_product   a row of integers of size up to a times a column of size up to b comes to m * (a * b) at most
 --   product_through      row i of A times B x, reduced between, is row i of the product A B times x
---   sum_through          with row i of C times x added, it is row i of A B + C times x
 --   row_balances         two rows have the same product with x exactly when the row of their differences has 0
 use Prim.Native.Nat.{ℕ, ◌+◌, ◌*◌, ◌%◌, ◌≤◌, ◌<◌}
 use Rattle.std.proofs.Common.{mul_comm, mul-le-mul, arith, ◌∙◌}
@@ -14,10 +13,14 @@ use Rattle.std.proofs.Math.Path.{sym, ap}
 use Rattle.std.proofs.Math.IntN.{pos}
 use Rattle.residue.specs.Rules.{least_residue, sum}
 use Rattle.residue.proofs.Laws.Modulo.{mod_mul_left, mod_mul}
-use Rattle.residue.proofs.Laws.Residues.{residue_sum, residue_zero, residue_same}
+use Rattle.residue.proofs.Laws.Residues.{residue_sum, residue_zero}
+use Rattle.residue.proofs.Laws.Residues.ResidueClose.{residue_same}
 use Rattle.residue.proofs.Laws.Sums.{sum_cong, sum_scale, sum_swap, sum_mod_cong}
 use Rattle.algebra.specs.Rules.{int_sum, matrix_product}
-use Rattle.algebra.proofs.Laws.IntegerSums.{int_sum_cong, int_sum_bound, int_sum_total, int_sum_difference, size_product, residue_products, residue_dot}
+use Rattle.algebra.proofs.Laws.IntegerSums.{int_sum_cong, int_sum_bound, int_sum_total, int_sum_difference, size_product}
+use Rattle.algebra.proofs.Laws.IntegerSums.ResidueDot.{residue_products, residue_dot}
+
+pub mod SumThrough
 
 pub matrix_product_is : (m : ℕ) (A B : ℕ → ℕ → ℤ) (i j : ℕ) → matrix_product m A B i j ≡ int_sum m (λ k. A i k *ℤ B k j)
 unfolding matrix_product
@@ -65,17 +68,6 @@ module _ (p : ℕ) (above : 0 < p) where
           ∙ ap (λ y. y % p) (mul_comm (sum m (λ k. a k * b k j) % p) (x j))
           ∙ scale_mod p m (x j) (λ k. a k * b k j)
           ∙ ap (λ y. y % p) (sum_cong m _ _ (λ k l. omega arith))
-
-  pub sum_through : (m n : ℕ) (A B C : ℕ → ℕ → ℤ) (i : ℕ) (x : ℕ → ℕ)
-      → least_residue p
-      (int_sum m (λ k. A i k *ℤ pos (least_residue p (int_sum n (λ j. B k j *ℤ pos (x j))))) +ℤ int_sum n (λ j. C i j *ℤ pos (x j)))
-      ≡ least_residue p (int_sum n (λ j. (matrix_product m A B i j +ℤ C i j) *ℤ pos (x j)))
-  sum_through m n A B C i x =
-      let bias = int_sum n (λ j. C i j *ℤ pos (x j)) in
-      residue_sum p above _ bias
-      ∙ ap (λ r. (r + least_residue p bias) % p) (product_through m n A B i x)
-      ∙ sym (residue_sum p above _ bias)
-      ∙ ap (least_residue p) (sym (int_sum_total n (matrix_product m A B i) (C i) x))
 
   pub row_balances : (n : ℕ) (c d : ℕ → ℤ) (x : ℕ → ℕ)
       → (least_residue p (int_sum n (λ j. c j *ℤ pos (x j))) ≡ least_residue p (int_sum n (λ j. d j *ℤ pos (x j))))

@@ -7,13 +7,14 @@
 --   vector_same       vector t of a list of s vectors of n numbers is the n numbers from number t * n on
 --   cut n s x         the first s vectors of n numbers of the list x
 --   cut_word, cut_vectors   if these all have Q, they are a word of s things that have Q, and the other way round
---   cut_apart         lists of s * n numbers that are cut into the same vectors are equal
 --   cut_flatten       s vectors of n numbers, put one after the other, are s * n numbers that are cut into the same vectors
 use Rattle.std.specs.Prelude.{ℕ, zero, suc, ◌+◌, ◌*◌, ◌≤◌, ◌<◌, ◌≡◌, refl, length, get_or, take, drop}
 use Rattle.std.proofs.Common.{add_comm, zero-mul, suc-mul, mul-le-mul_right, arith, sym, ap, ◌∙◌, length-drop, length-append, take-append-drop, length-take-le, get_or-take, get_or-drop, drop-drop}
 use mathlib.Core.List.{List, [], ◌∷◌, ◌++◌, flatten}
 use Rattle.std.proofs.Math.Seq.{take-append_seam, drop-append_seam}
 use Rattle.residue.proofs.Laws.Counting.{Word}
+
+pub mod CutApart
 
 pub word_of_entries : (P : ℕ → Type 0) (n : ℕ) (x : List ℕ) → length x ≡ n → ((k : ℕ) → k < n → P (get_or x k 0)) → Word P n x
 word_of_entries P zero [] e h = tt
@@ -94,9 +95,6 @@ flatten_cut n zero [] e = refl
 flatten_cut n zero (x ∷ xs) e = absurd (omega arith)
 flatten_cut n (suc s) x e =
     ap (λ l. take n x ++ l) (flatten_cut n s (drop n x) (omega (arith, length-drop n x))) ∙ take-append-drop n x
-
-pub cut_apart : (n s : ℕ) (x y : List ℕ) → length x ≡ s * n → length y ≡ s * n → cut n s x ≡ cut n s y → x ≡ y
-cut_apart n s x y ex ey e = sym (flatten_cut n s x ex) ∙ ap flatten e ∙ flatten_cut n s y ey
 
 pub cut_flatten : (n s : ℕ) (ys : List (List ℕ)) → Word (λ (y : List ℕ). length y ≡ n) s ys
     → (length (flatten ys) ≡ s * n) × (cut n s (flatten ys) ≡ ys)

@@ -20,7 +20,8 @@ use Rattle.std.proofs.Common.{mod-lt, mod-eq_of_lt, mul-le-mul, arith, sym, â—Œâ
 use Rattle.std.proofs.Math.Nat.{mod-add-mod}
 use Rattle.std.proofs.Math.Path.{ap}
 use Rattle.residue.specs.Rules.{modulus, least_residue, sum, WithNumber}
-use Rattle.residue.proofs.Laws.Modulus.{modulus_below, modulus_positive}
+use Rattle.residue.proofs.Laws.Modulus.{modulus_below}
+use Rattle.residue.proofs.Laws.Modulus.PartnerModuli.{modulus_positive}
 use Rattle.residue.proofs.Laws.Products.{product_below, HoldsSum, holds_more, holds_exact, holds_with}
 use Rattle.residue.proofs.Laws.Residues.{residue_of_natural}
 use Rattle.residue.proofs.Laws.Sums.{sum_none, sum_more, sum_below}

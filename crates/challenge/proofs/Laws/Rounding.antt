@@ -10,7 +10,8 @@ use Rattle.algebra.proofs.Laws.IntegerSums.{int_sum_cong}
 use Rattle.ticket.specs.declared.setting.Setting.{Setting}
 use Rattle.ticket.specs.Rules.{quotient, remainder}
 use Rattle.ticket.proofs.Laws.Rounding as ticket
-use Rattle.ticket.proofs.Laws.Rounding.{unrounded_claim, rounded}
+use Rattle.ticket.proofs.Laws.Rounding.UnroundedClaim.{unrounded_claim}
+use Rattle.ticket.proofs.Laws.Rounding.{rounded}
 use Rattle.challenge.specs.Rules.{challenge_at, first_nonzero, vector_number, list_reading, product_b, claim_side, operand_side, operand_side_by, challenge_products, caught_products}
 
 pub unrounded_side : (G : Setting) → G.rounding ≡ 0 → (t x : List ℕ) (τ i : ℕ)

@@ -14,7 +14,7 @@ use Rattle.residue.proofs.Laws.Modulo.{mod_of_multiples, multiples_of_mod, mod_m
 use Rattle.residue.proofs.Laws.Residues.{residue_of_natural, residue_sum}
 use Rattle.residue.proofs.Laws.Sums.{sum_mod_cong, sum_add, sum_scale}
 use Rattle.algebra.specs.Rules.{int_sum}
-use Rattle.algebra.proofs.Laws.IntegerSums.{residue_dot}
+use Rattle.algebra.proofs.Laws.IntegerSums.ResidueDot.{residue_dot}
 use Rattle.challenge.specs.Laws.Shifts.{taken_off}
 
 module _ (p : ℕ) (above : 0 < p) (s : ℕ) where

@@ -14,20 +14,23 @@ use Rattle.std.proofs.Math.Arith.{digits_lt}
 use Rattle.std.proofs.Math.IntN.{zero-*ℤ}
 use Rattle.std.proofs.Math.Seq.{drop-length, get_or-take, take-length}
 use Rattle.residue.specs.Rules.{modulus, least_residue}
-use Rattle.residue.proofs.Laws.Modulus.{modulus_above, modulus_positive}
+use Rattle.residue.proofs.Laws.Modulus.{modulus_above}
+use Rattle.residue.proofs.Laws.Modulus.PartnerModuli.{modulus_positive}
 use Rattle.residue.proofs.Laws.Residues.{residue_sum}
 use Rattle.residue.proofs.Laws.Sums.{sum_cong}
 use Rattle.algebra.specs.Rules.{int_sum}
-use Rattle.algebra.proofs.Laws.IntegerSums.{int_sum_none, int_sum_zero, residue_dot}
+use Rattle.algebra.proofs.Laws.IntegerSums.{int_sum_none, int_sum_zero}
+use Rattle.algebra.proofs.Laws.IntegerSums.ResidueDot.{residue_dot}
 use Rattle.algebra.specs.Laws.Fills.{Filled}
 use Rattle.algebra.proofs.Laws.Fills.{part_of}
 use Rattle.ticket.specs.declared.setting.Setting.{Setting}
 use Rattle.ticket.specs.Rules.{half_range, of_a, of_bias, of_quotients, of_remainders, bias_columns, entry_a, entry_bias, claim, has_bias}
 use Rattle.ticket.specs.Laws.Decodes.{ShiftedList, LiftedList}
-use Rattle.ticket.proofs.Laws.Decodes.{values_bias, entries_shifted, claims_lifted}
+use Rattle.ticket.proofs.Laws.Decodes.ClaimsLess.{values_bias, entries_shifted, claims_lifted}
 use Rattle.ticket.specs.Laws.Layout.{part_bytes}
 use Rattle.ticket.specs.Laws.Limits.{clamped, lift}
-use Rattle.ticket.proofs.Laws.Limits.{with_bias_lem, without_bias, bias_columns_most, lift_made, lift_small}
+use Rattle.ticket.proofs.Laws.Limits.{with_bias_lem, without_bias, lift_made, lift_small}
+use Rattle.ticket.proofs.Laws.Limits.ClampedSmall.{bias_columns_most}
 use Rattle.ticket.proofs.Laws.Differences.{no_bias_entry}
 use Rattle.ticket.proofs.Laws.First.{true_or_false}
 use Rattle.ticket.specs.Laws.Passes.{Passed}

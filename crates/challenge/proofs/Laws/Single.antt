@@ -7,15 +7,14 @@
 --   bias_inside, single_sides   then the two sides can be compared
 --   single_balanced    and are equal exactly when the row is balanced
 --   balanced_cong      whether a row is balanced depends on the numbers of its vector, and of what it takes for the product
---   balanced_reduced   and on these modulo p alone
 --   product_same, product_cong   so do the product, and u, made anew at row 0
 --   listed_long, listed_at, filled_listed   a list by its elements; a list of which the first elements are filled so
 --   line_matrix, product_first, product_later   the product can be made; u as the code makes it
 --   words_kept         the numbers that a row takes are of 32 bits
 --   line_ready, line_numbers   the vector, widened, is ready for its row, and its numbers are those of the list
---   row_made_lem           what the code makes of a row
 --   row_ready, row_checked, row_refused, row_beyond   the answer of a row by the tests, and by whether there is one
 --   product_kept, balanced_kept   with u as its rows keep it, a row is balanced by u exactly when it is
+-- decoding a row
 use Rattle.std.specs.Prelude.{ℕ, zero, suc, ◌+◌, ◌-◌, ◌*◌, ◌%◌, ◌^◌, ◌≤◌, ◌<◌, ◌≡◌, refl, Bool, true, false, ◌&&◌, ◌⊎◌, List, [], ◌∷◌, ◌++◌, eqb, ltb, ◌*ℤ◌, take, drop}
 use Rattle.std.proofs.Math.Decide.{ℕ_discrete, dec_lt}
 use Rattle.std.proofs.Math.Nat.{mod-eq_of_lt}
@@ -27,23 +26,27 @@ use Rattle.std.proofs.Math.IntN.{pos}
 use Rattle.std.proofs.Math.ListN.{length, get_or, get_or-append}
 use Rattle.residue.specs.Rules.{modulus, least_residue}
 use Rattle.residue.proofs.Laws.Modulo.{mod_mul, mod_mul_left}
-use Rattle.residue.proofs.Laws.Modulus.{modulus_below, modulus_positive}
+use Rattle.residue.proofs.Laws.Modulus.{modulus_below}
+use Rattle.residue.proofs.Laws.Modulus.PartnerModuli.{modulus_positive}
 use Rattle.residue.proofs.Laws.Residues.{residue_below, residue_sum}
 use Rattle.residue.proofs.Laws.Sums.{sum_mod_cong}
 use Rattle.algebra.specs.Rules.{int_sum}
 use Rattle.algebra.specs.Laws.Fills.{Filled, line_at}
-use Rattle.algebra.proofs.Laws.IntegerSums.{int_sum_cong, residue_dot}
+use Rattle.algebra.proofs.Laws.IntegerSums.{int_sum_cong}
+use Rattle.algebra.proofs.Laws.IntegerSums.ResidueDot.{residue_dot}
 use Rattle.algebra.proofs.Laws.Positions.{row_inside}
 use Rattle.ticket.specs.declared.setting.Setting.{Setting}
 use Rattle.ticket.specs.declared.Answer.{Answer}
 use Rattle.ticket.specs.Rules.{unless, answer, refusal, reading, most_inner, record_bytes, half_range, of_a, of_b, of_bias, of_quotients, of_remainders, bias_columns, entry_a, entry_b, entry_bias, claim}
 use Rattle.ticket.proofs.Laws.Answers.{after_zero}
 use Rattle.ticket.specs.Laws.Decodes.{ShiftedList, LiftedList}
-use Rattle.ticket.proofs.Laws.Decodes.{decodable, row_shifted, row_lifted, values_b, values_bias}
+use Rattle.ticket.proofs.Laws.Decodes.{decodable}
+use Rattle.ticket.proofs.Laws.Decodes.ClaimsLess.{row_shifted, row_lifted, values_b, values_bias}
 use Rattle.ticket.specs.Laws.Layout.{part_bytes}
 use Rattle.ticket.proofs.Laws.Layout.{parts_are}
 use Rattle.ticket.specs.Laws.Limits.{clamped}
-use Rattle.ticket.proofs.Laws.Limits.{bias_columns_most, lift_made}
+use Rattle.ticket.proofs.Laws.Limits.ClampedSmall.{bias_columns_most}
+use Rattle.ticket.proofs.Laws.Limits.{lift_made}
 use Rattle.ticket.proofs.Laws.Passes.{passed_of}
 use Rattle.challenge.specs.declared.single.RowAnswer.{RowAnswer}
 use Rattle.challenge.specs.Rules.{challenge_at, list_reading, testing, product_b, claim_side, operand_side_by, balanced_by, balanced, listed, product_at, balanced_at, row_made, no_row, row_there, row_check}
@@ -57,7 +60,8 @@ use Rattle.challenge.proofs.Laws.Sides.{sides_balanced}
 use Rattle.challenge.proofs.Laws.Vectors.{vector_numbers, vector_words, product_by}
 use Rattle.challenge.specs.Laws.Single.{RowReady, LineReady, DecodeRowReady}
 
--- decoding a row
+pub mod BalancedReduced
+pub mod RowMadeLem
 
 module _ {G : Setting} {t : List ℕ} {half i m n : ℕ} (ready : DecodeRowReady G t half i m n) where
   pub entries_cut : {b : List ℕ} → b ≡ part_bytes (clamped G) t of_a → i * (record_bytes * G.inner) + record_bytes * G.inner ≤ length b
@@ -82,8 +86,6 @@ module _ {G : Setting} {t : List ℕ} {half i m n : ℕ} (ready : DecodeRowReady
         entries = row_shifted ready.passed b-is ready.row b'-is (omega (arith, ready.inner)) entries;
         claims = row_lifted ready.passed q-is r-is ready.half_is ready.row q'-is r'-is (omega (arith, ready.columns)) claims;
       }
-
--- the two sides of the row
 
 pub bias_inside : {G : Setting} {t y u : List ℕ} {i n : ℕ} → LineReady G t y u i → n ≡ bias_columns G → n ≤ length y
 bias_inside {G} ready n-is = omega (arith, ready.room.columns, bias_columns_most G)
@@ -111,8 +113,6 @@ module _ {G : Setting} {t y u : List ℕ} {i : ℕ} (ready : LineReady G t y u i
       number_zero : (b : Bool) (τ i m : ℕ) → eqb (unless b (answer 12 τ i m) (answer 0 0 0 m)).number 0 ≡ b
       number_zero true τ i m = refl
       number_zero false τ i m = refl
-
--- lists by their elements
 
 listed_cong : (n : ℕ) (f g : ℕ → ℕ) → ((k : ℕ) → f k ≡ g k) → listed n f ≡ listed n g
 unfolding listed
@@ -149,8 +149,6 @@ filled_listed {n} {before} {list} {f} fits filled =
           ∙ get_or-drop n before (k - n) 0 ∙ ap (λ q. get_or before q 0) place)
     ])
 
--- what a row depends on
-
 module _ (G : Setting) (t x y : List ℕ) (τ σ : ℕ) (same : (j : ℕ) → j < G.columns → challenge_at G x τ j ≡ challenge_at G y σ j) where
   pub balanced_cong : (f g : ℕ → ℕ) → ((k : ℕ) → k < G.inner → f k ≡ g k) → (i : ℕ) → balanced_by G t x τ f i ≡ balanced_by G t y σ g i
   unfolding balanced_by claim_side operand_side_by
@@ -171,19 +169,6 @@ module _ (G : Setting) (t x y : List ℕ) (τ σ : ℕ) (same : (j : ℕ) → j 
   pub product_cong : (i : ℕ) (u : List ℕ) → product_at G t x τ i u ≡ product_at G t y σ i u
   unfolding product_at
   product_cong i u = rw (listed_cong G.inner (product_b G t x τ) (product_b G t y σ) product_same)
-
-pub balanced_reduced : (G : Setting) (t x : List ℕ) (τ : ℕ) (f : ℕ → ℕ) (i : ℕ) → balanced_by G t x τ f i ≡ balanced_by G t x τ (λ k. f k % modulus) i
-unfolding balanced_by operand_side_by
-balanced_reduced G t x τ f i =
-    ap (λ n. eqb (claim_side G t x τ i) n)
-    (residue_sum modulus modulus_positive _ _
-    ∙ ap (λ n. (n + least_residue modulus (int_sum G.columns (λ j. entry_bias G t i j *ℤ pos (challenge_at G x τ j)))) % modulus)
-    (residue_dot modulus modulus_positive G.inner (entry_a G t i) f
-    ∙ sum_mod_cong G.inner modulus _ _ (λ k l. sym (mod_mul modulus (least_residue modulus (entry_a G t i k)) (f k)) ∙ mod_mul_left modulus _ (f k % modulus))
-    ∙ sym (residue_dot modulus modulus_positive G.inner (entry_a G t i) (λ k. f k % modulus)))
-    ∙ sym (residue_sum modulus modulus_positive _ _))
-
--- the product
 
 module _ {G : Setting} {t y u : List ℕ} {i : ℕ} (ready : LineReady G t y u i) {b : List ℕ} (b-is : b ≡ part_bytes (clamped G) t of_b) where
   pub line_matrix : ProductReady b (length u) y
@@ -222,8 +207,6 @@ words_kept {u} widened long short =
       below = λ k l. let m : k < length u = omega (arith, filled.long) in rw (filled.each k m) (widened.words k m);
     }
 
--- the row
-
 module _ {G : Setting} {t x : List ℕ} {τ i : ℕ} (ready : RowReady G t x τ i) {before-y before-u : List ℕ} (room : RoomFor G before-y before-u)
     {z : List ℕ} (z-is : z ≡ line_at x (length before-y) τ) {y : List ℕ} (widened : Widened z before-y y) where
   pub line_ready : {u : List ℕ} → length u ≡ length before-u → LineReady G t y u i
@@ -238,25 +221,8 @@ module _ {G : Setting} {t x : List ℕ} {τ i : ℕ} (ready : RowReady G t x τ 
   pub line_numbers : (j : ℕ) → j < G.columns → get_or y j 0 ≡ challenge_at G x τ j
   line_numbers = vector_numbers ready.vector room z-is widened
 
-pub row_made_lem : (G : Setting) (t x y : List ℕ) (τ i : ℕ) (u : List ℕ) {n : ℕ} {before wide made : List ℕ} {b : Bool}
-    → ((j : ℕ) → j < G.columns → get_or y j 0 ≡ challenge_at G x τ j) → n ≡ G.inner → n ≡ length (take n made)
-    → made ≡ product_at G t y 0 i u → Widened (take n made) before wide → b ≡ balanced_by G t y 0 (λ k. get_or wide k 0) i
-    → ◌≡◌ {A = RowAnswer} (record { tested = refusal 0 0; balanced = b; u = made }) (row_made G t x τ i u)
-unfolding balanced_at
-row_made_lem G t x y τ i u {n} {wide = wide} {made = made'} numbers inner long made-is widened b-is =
-    let same : (j : ℕ) → j < G.columns → challenge_at G y 0 j ≡ challenge_at G x τ j = λ j l. ap (λ q. get_or y q 0) (omega arith) ∙ numbers j l in
-    let made : _ ≡ product_at G t x τ i u = made-is ∙ product_cong G t y x 0 τ same i u in
-    rw (
-      b-is,
-      balanced_cong G t y x 0 τ same (λ k. get_or wide k 0) (λ k. get_or (product_at G t x τ i u) k 0)
-          (λ k l. widened.filled.each k (omega arith) ∙ get_or-take n made' k 0 (omega arith) ∙ ap (λ l. get_or l k 0) made) i,
-      balanced_reduced G t x τ (λ k. get_or (product_at G t x τ i u) k 0) i,
-      made,
-    )
-
--- the answer of a row, a being that of the tests
-
 module _ (G : Setting) (t x : List ℕ) (τ i : ℕ) {a : Answer} (a-is : a ≡ testing G t x) where
+
   module _ (passed : a.number ≡ 0) (vector : τ < G.vectors) (row : i < G.rows) where
     pub row_ready : RowReady G t x τ i
     row_ready =
@@ -282,8 +248,6 @@ module _ (G : Setting) (t x : List ℕ) (τ i : ℕ) {a : Answer} (a-is : a ≡ 
       (λ l. not_made u (rw (le-ltb τ G.vectors l) (and-false (eqb (testing G t x).number 0))) r-is)
       (λ l. not_made u (rw (le-ltb i G.rows l, and-false (ltb τ G.vectors)) (and-false (eqb (testing G t x).number 0))) r-is)
       beyond
-
--- the product, as a row that is made takes it
 
 product_below : (G : Setting) (t x : List ℕ) (τ k : ℕ) → product_b G t x τ k < modulus
 unfolding product_b

@@ -14,19 +14,20 @@ use Rattle.std.specs.Prelude.{ℕ, ◌+◌, ◌*◌, ◌%◌, ◌≤◌, ◌<◌
 use Rattle.std.proofs.Common.{mul-le-mul, sym, ap, ◌∙◌, ext_get_or}
 use native.Mathlib.Omega.{arith}
 use Rattle.residue.specs.Rules.{modulus, least_residue}
-use Rattle.residue.proofs.Laws.Modulus.{modulus_above, modulus_below, modulus_positive}
+use Rattle.residue.proofs.Laws.Modulus.{modulus_above, modulus_below}
+use Rattle.residue.proofs.Laws.Modulus.PartnerModuli.{modulus_positive}
 use Rattle.residue.proofs.Laws.Sums.{sum_cong}
 use Rattle.algebra.specs.Laws.Fills.{Filled, line_at}
 use Rattle.algebra.proofs.Laws.Fills.{part_of, part_long}
-use Rattle.algebra.proofs.Laws.IntegerSums.{residue_dot}
+use Rattle.algebra.proofs.Laws.IntegerSums.ResidueDot.{residue_dot}
 use Rattle.algebra.proofs.Laws.Positions.{row_inside}
 use Rattle.ticket.specs.declared.setting.Setting.{Setting}
 use Rattle.ticket.specs.declared.Answer.{Answer}
 use Rattle.ticket.specs.Rules.{most_rows, most_inner, most_columns, of_b, of_bias, entry_b}
-use Rattle.ticket.proofs.Laws.Decodes.{values_b, values_bias}
+use Rattle.ticket.proofs.Laws.Decodes.ClaimsLess.{values_b, values_bias}
 use Rattle.ticket.specs.Laws.Layout.{part_bytes}
 use Rattle.ticket.specs.Laws.Limits.{clamped}
-use Rattle.ticket.proofs.Laws.Limits.{bias_columns_most}
+use Rattle.ticket.proofs.Laws.Limits.ClampedSmall.{bias_columns_most}
 use Rattle.ticket.specs.Laws.Passes.{Passed}
 use Rattle.ticket.specs.Laws.Runs.{steps_answer, step_answer, RunTo}
 use Rattle.ticket.proofs.Laws.Scans.{scan_cong, scan_by_first}

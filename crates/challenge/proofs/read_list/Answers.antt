@@ -1,6 +1,7 @@
 use mathlib.Core.Path.{◌≡◌, sym, ap, ◌∙◌}
 use Rattle.ticket.specs.Rules.{refusal, setting_number}
-use Rattle.ticket.proofs.Laws.Limits.{number_by_lem, counts, limits_of, setting_holds}
+use Rattle.ticket.proofs.Laws.Limits.{number_by_lem, limits_of}
+use Rattle.ticket.proofs.Laws.Limits.ClampedSmall.{counts, setting_holds}
 use Rattle.ticket.proofs.Laws.Scans.{after_first, after_second}
 use Rattle.challenge.proofs.read_list.Goals as goal
 

@@ -1,7 +1,7 @@
 -- 2^32 is added in 64 bits, where every signed 32-bit number has room.
 use Rattle.std.proofs.Common.{◌^◌, sym, refl, ◌∙◌, arith, lit≤, w32, SFits, rules}
 use Rattle.residue.proofs.Laws.Residues.{residue_of_natural}
-use Rattle.residue.proofs.Laws.Signed.{lifted_residue}
+use Rattle.residue.proofs.Laws.Signed.LiftedResidue.{lifted_residue}
 use Rattle.exact.proofs.bits.Goals as goal
 
 pub returns : goal.returns

@@ -19,10 +19,11 @@ use Rattle.writer.specs.Rules.{writing, ticket_of}
 use Rattle.writer.proofs.Laws.Answers.{ticket_written, writing_of}
 use Rattle.writer.proofs.Laws.Records.{length_ticket_of}
 use Rattle.quote.specs.Rules.{figures, quote_of}
-use Rattle.quote.proofs.Laws.Quotes.{passing_quoted, figures_unread, quote_unread}
-use Rattle.soundness.proofs.Laws.Answers.{accepted_number, accepted_exactly}
-use Rattle.exactness.proofs.Laws.Full.{full_accepted_number, full_accepted_true}
-use Rattle.exactness.proofs.Laws.Writer.{writable_of, output_long}
+use Rattle.quote.proofs.Laws.Quotes.PassingQuoted.{passing_quoted}
+use Rattle.quote.proofs.Laws.Quotes.{figures_unread, quote_unread}
+use Rattle.soundness.proofs.Laws.Answers.AnswerInTable.{accepted_number, accepted_exactly}
+use Rattle.exactness.proofs.Laws.Full.FullAcceptedTrue.{full_accepted_number, full_accepted_true}
+use Rattle.exactness.proofs.Laws.Writer.OutputLong.{writable_of, output_long}
 
 module _ (G : Setting) (v : ℕ) where
   pub passing_given : setting_number (widened G v) ≡ 0 → (w : ℕ) × (w ≤ v) × (quote_of G ≡ figures G w)

@@ -4,9 +4,6 @@
 --   WriterRow G a        the answer a is a row of the table for the writer, within its bounds
 --   writing_answered     for some a the condition holds
 --   writing_exactly      the answer is a exactly when the condition of a holds
---   writing_in_table     every answer is a row of the table
---   writable_of, output_long   where the answer's number is 0, the operands are writable and the output is long enough
---   length_output        the output is as long as before
 use Rattle.std.specs.Prelude.{ℕ, ◌+◌, ◌*◌, ◌≤◌, ◌<◌, ◌≡◌, refl, ◌↔◌, List, ◌++◌, ℤ, pos, nat_abs, length, get_or}
 use Rattle.std.proofs.Math.Decide.{ℕ_discrete, dec_le}
 use Rattle.std.proofs.Common.{arith, sym, ap, ◌∙◌, ⊎_elim, length-append, length-drop}
@@ -14,15 +11,21 @@ use Rattle.ticket.specs.declared.setting.Setting.{Setting}
 use Rattle.ticket.specs.declared.Answer.{Answer}
 use Rattle.ticket.specs.Rules.{answer, refusal, setting_tests, part, part_size, of_a, of_b, of_bias, bias_bound, bias_columns, ticket_length}
 use Rattle.ticket.proofs.Laws.Layout.{parts_are}
-use Rattle.ticket.proofs.Laws.Limits.{setting_numbered, SettingRow, setting_in_table}
+use Rattle.ticket.proofs.Laws.Limits.{setting_numbered}
+use Rattle.ticket.proofs.Laws.Limits.BiasSmall.{SettingRow}
+use Rattle.ticket.proofs.Laws.Limits.SettingInTable.{setting_in_table}
 use Rattle.ticket.proofs.Laws.Scans.{zeros_or_first}
 use Rattle.ticket.specs.Laws.Tests.{AllHold}
 use Rattle.ticket.proofs.Laws.Tests.{hold_or_failed, failed_numbered}
 use Rattle.writer.specs.Rules.{beyond_number, written, writing, output_after}
 use Rattle.writer.specs.Laws.Answers.{Writable}
-use Rattle.writer.proofs.Laws.Answers.{Lengths, WriterAnswered, setting_failed, length_a_wrong, length_b_wrong, length_c_wrong, operand_beyond, bias_beyond, output_short, ticket_written, writable, writing_of, output_refused, output_written}
+use Rattle.writer.proofs.Laws.Answers.{Lengths, WriterAnswered, setting_failed, length_a_wrong, length_b_wrong, length_c_wrong, operand_beyond, bias_beyond, output_short, ticket_written, writable, writing_of, output_refused}
+use Rattle.writer.proofs.Laws.Answers.OutputWritten.{output_written}
 use Rattle.writer.proofs.Laws.Operands.{within_of, beyond_of}
 use Rattle.writer.proofs.Laws.Records.{length_ticket_of}
+
+pub mod OutputLong
+pub mod LengthOutput
 
 pub data WriterRow (G : Setting) : Answer → Type 0 where
   written_row : WriterRow G (answer 0 (ticket_length G) 0 (G.rows * G.inner * G.columns))
@@ -33,6 +36,7 @@ pub data WriterRow (G : Setting) : Answer → Type 0 where
   output_length_row : WriterRow G (answer 15 0 0 0)
 
 module _ (G : Setting) (A B C : List ℤ) where
+
   module _ (size : ℕ) where
     answered_output : Writable G A B C → (a : Answer) × WriterAnswered G A B C size a
     answered_output w =
@@ -98,9 +102,6 @@ module _ (G : Setting) (A B C : List ℤ) where
     row_of (output_short w l) = output_length_row
     row_of (ticket_written w l) = written_row
 
-    pub writing_in_table : WriterRow G (writing G A B C size)
-    writing_in_table = row_of ((writing_exactly (writing G A B C size)).0 refl)
-
     written_of : {a : Answer} → WriterAnswered G A B C size a → a.number ≡ 0 → Writable G A B C × (ticket_length G ≤ size)
     written_of (setting_failed f) z = absurd (omega (arith, failed_numbered (setting_tests G) (setting_numbered G) f))
     written_of (length_a_wrong s d) z = absurd (omega arith)
@@ -110,18 +111,3 @@ module _ (G : Setting) (A B C : List ℤ) where
     written_of (bias_beyond s long h l before m) z = absurd (omega arith)
     written_of (output_short w l) z = absurd (omega arith)
     written_of (ticket_written w l) z = (w, l)
-
-    pub writable_of : (writing G A B C size).number ≡ 0 → Writable G A B C
-    writable_of e = (written_of ((writing_exactly (writing G A B C size)).0 refl) e).0
-
-    pub output_long : (writing G A B C size).number ≡ 0 → ticket_length G ≤ size
-    output_long e = (written_of ((writing_exactly (writing G A B C size)).0 refl) e).1
-
-  pub length_output : (o : List ℕ) → length (output_after G A B C o) ≡ length o
-  length_output o =
-      elim (ℕ_discrete (writing G A B C (length o)).number 0) [
-        | no d ↦ ap length (output_refused G A B C o d)
-        | yes e ↦
-            ap length (output_written G A B C o e)
-            ∙ simp (length-append, length-drop, length_ticket_of) (omega (arith, output_long (length o) e))
-      ]

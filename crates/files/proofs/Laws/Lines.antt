@@ -6,7 +6,6 @@
 --   put_digits       a longer one: the digits of its tenth, and its last digit
 --   number_short     such a number is shorter
 --   put_end          a number, and the byte after it
---   put_line         four fields are the line
 use Rattle.std.specs.Prelude.{ℕ, ◌+◌, ◌/◌, ◌%◌, ◌^◌, ◌≤◌, ◌<◌, ◌≡◌, List, [], ◌∷◌, ◌++◌, length, take, drop, set}
 use Rattle.std.proofs.Common.{add-one, arith, sym, ap, ◌∙◌, append_assoc, length-append, length-drop, take_at, drop-drop, length-take-le}
 use Rattle.std.proofs.lemmas.List.{set_split}
@@ -15,8 +14,11 @@ use Rattle.ticket.specs.declared.Answer.{Answer}
 use Rattle.files.specs.Rules.{digit, space, line_feed, decimal, field, line_of}
 use Rattle.files.specs.Laws.Prefixes.{Leads}
 use Rattle.files.proofs.Laws.Prefixes.{leads}
-use Rattle.files.proofs.Laws.Decimal.{decimal_digit, decimal_longer, decimal_short}
+use Rattle.files.proofs.Laws.Decimal.{decimal_digit, decimal_longer}
+use Rattle.files.proofs.Laws.Decimal.DecimalShort.{decimal_short}
 use Rattle.files.specs.Laws.Lines.{Put, longest_field}
+
+pub mod PutLine
 
 put_long : {before after text : List ℕ} {at next : ℕ} → Put before at text next after → length after ≡ length before
 put_long {before} {after} {text} {at} {next} put =
@@ -47,8 +49,6 @@ put_more {before} {middle} {after} {text} {text'} {at} {next} {next'} first seco
       bytes = second.bytes ∙ rw (head, tail) (simp append_assoc);
     }
 
--- a number in decimal
-
 pub digit_room : (at n : ℕ) {size : ℕ} → n < 10 → at + length (decimal n) ≤ size → at < size
 digit_room at n one room = omega (arith, ap length (decimal_digit n one))
 
@@ -64,8 +64,6 @@ pub put_digits : {before middle : List ℕ} {at next : ℕ} (n : ℕ) → 10 ≤
 put_digits {middle = middle} {next = next} n several l put =
     rw (decimal_longer n several) (put_more put (put_byte middle next (digit (n % 10)) l))
 
--- fields
-
 pub number_short : (n : ℕ) → n < 2 ^ 32 → length (decimal n) < longest_field
 number_short n l = omega (arith, decimal_short 9 n (omega arith))
 
@@ -73,12 +71,3 @@ pub put_end : {before middle : List ℕ} {at next : ℕ} (n end : ℕ) → next 
     → Put before at (decimal n) next middle → Put before at (field n end) (next + 1) (set middle next end)
 unfolding field
 put_end {middle = middle} {next = next} n end l put = put_more put (put_byte middle next end l)
-
-pub put_line : {first second third fourth after : List ℕ} {i j k l : ℕ} (a : Answer) → Put first 0 (field a.number space) i second
-    → Put second i (field a.place space) j third → Put third j (field a.row space) k fourth
-    → Put fourth k (field a.products line_feed) l after
-    → (l ≡ length (line_of a)) × (after ≡ line_of a ++ drop l first) × Leads l after
-unfolding line_of
-put_line {after = after} {l = l} a number place row products =
-    let put = put_more (put_more (put_more number place) row) products in
-    (put.place ∙ omega arith, put.bytes, leads l after (omega (arith, put.inside, put_long put)))

@@ -6,10 +6,11 @@ use Rattle.std.proofs.Math.Decide.{ℕ_discrete}
 use Rattle.std.proofs.Common.{arith, sym, subst}
 use Rattle.std.proofs.Math.ListN.{length-replicate}
 use Rattle.ticket.specs.declared.setting.Setting.{Setting}
-use Rattle.ticket.proofs.Laws.Limits.{sizes_row, limit_row}
+use Rattle.ticket.proofs.Laws.Limits.BiasSmall.{sizes_row, limit_row}
 use Rattle.ticket.proofs.Laws.Refusals.{by_setting_row}
 use Rattle.challenge.specs.Rules.{challenge_check}
-use Rattle.soundness.proofs.Laws.Answers.{TableRow, reading_row, answer_in_table}
+use Rattle.soundness.proofs.Laws.Answers.{TableRow, reading_row}
+use Rattle.soundness.proofs.Laws.Answers.AnswerInTable.{answer_in_table}
 use Rattle.files.specs.Rules.{setting_bytes, number_bytes, setting_of, numbers_of, file_check}
 use Rattle.files.proofs.Laws.Checks.{setting_file_refused, same_check, as_call}
 

@@ -27,8 +27,10 @@ use Rattle.ticket.specs.declared.setting.Setting.{Setting}
 use Rattle.ticket.specs.declared.Answer.{Answer}
 use Rattle.ticket.specs.Rules.{answer, scan, reading, part, part_size, of_a, of_b, of_bias, of_quotients, of_remainders, half_range, entry_a, entry_b, entry_bias, claim, due}
 use Rattle.ticket.specs.Laws.Decodes.{decoded_count, claim_count, narrow_at, lifted_at, LessList}
-use Rattle.ticket.proofs.Laws.Decodes.{SumClaims, claims_lifted, claims_less, entries_a, entries_b}
-use Rattle.ticket.proofs.Laws.Differences.{biased_sum_is, claims_close}
+use Rattle.ticket.proofs.Laws.Decodes.{SumClaims}
+use Rattle.ticket.proofs.Laws.Decodes.ClaimsLess.{claims_lifted, claims_less, entries_a, entries_b}
+use Rattle.ticket.proofs.Laws.Differences.{biased_sum_is}
+use Rattle.ticket.proofs.Laws.Differences.ClaimsClose.{claims_close}
 use Rattle.ticket.specs.Laws.Layout.{part_bytes}
 use Rattle.ticket.proofs.Laws.Layout.{parts_are}
 use Rattle.ticket.proofs.Laws.Lifts.{lifted_decides}

@@ -5,7 +5,7 @@ use Rattle.std.specs.Prelude.{◌≡◌, ℕ, ◌/◌, ◌%◌, List, pos, ◌+�
 use Rattle.std.proofs.Common.{ap}
 use Rattle.ticket.specs.declared.setting.Setting.{Setting}
 use Rattle.ticket.specs.Rules.{quotient, remainder, due}
-use Rattle.ticket.proofs.Laws.Rounding.{unrounded_claim}
+use Rattle.ticket.proofs.Laws.Rounding.UnroundedClaim.{unrounded_claim}
 use Rattle.full.specs.Rules.{same, holds}
 
 pub unrounded_holds : (G : Setting) → G.rounding ≡ 0 → (t : List ℕ) (c : ℕ) → let i = c / G.columns in let j = c % G.columns in

@@ -14,7 +14,7 @@ use Rattle.ticket.specs.declared.setting.Setting.{Setting}
 use Rattle.ticket.specs.declared.Answer.{Answer}
 use Rattle.ticket.specs.Rules.{first, answer}
 use Rattle.ticket.proofs.Laws.First.{first_within}
-use Rattle.ticket.proofs.Laws.Limits.{counts}
+use Rattle.ticket.proofs.Laws.Limits.ClampedSmall.{counts}
 use Rattle.ticket.specs.Laws.Runs.{RunTo}
 use Rattle.ticket.proofs.Laws.Runs.{run_several, run_breaks}
 use Rattle.full.specs.Laws.Sums.{claimed_for, line_sum, sum_steps, SumsReady, SumRowReady, RowCompared}

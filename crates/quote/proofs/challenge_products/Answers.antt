@@ -3,7 +3,7 @@ use native.Mathlib.Omega.{arith}
 use Prim.Native.Nat.{◌+◌, ◌*◌, ◌≤◌}
 use Rattle.ticket.specs.Rules.{most_inner, most_columns, most_rows, most_vectors}
 use Rattle.ticket.specs.Laws.Limits.{Counts}
-use Rattle.ticket.proofs.Laws.Limits.{counts, bias_columns_most}
+use Rattle.ticket.proofs.Laws.Limits.ClampedSmall.{counts, bias_columns_most}
 use Rattle.challenge.specs.Rules.{vector_products, challenge_products}
 use Rattle.quote.proofs.challenge_products.Goals as goal
 

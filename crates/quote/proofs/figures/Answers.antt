@@ -1,9 +1,10 @@
 use native.Mathlib.Omega.{arith}
 use mathlib.Core.Path.{◌≡◌, ap}
 use Rattle.ticket.specs.Rules.{ticket_length}
-use Rattle.ticket.proofs.Laws.Layout.{length_most}
+use Rattle.ticket.proofs.Laws.Layout.LengthMost.{length_most}
 use Rattle.ticket.specs.Laws.Limits.{clamped}
-use Rattle.ticket.proofs.Laws.Limits.{clamped_same, counts}
+use Rattle.ticket.proofs.Laws.Limits.{clamped_same}
+use Rattle.ticket.proofs.Laws.Limits.ClampedSmall.{counts}
 use Rattle.quote.proofs.figures.Goals as goal
 
 pub overflow_cast-length : goal.overflow_cast-length

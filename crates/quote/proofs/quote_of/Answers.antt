@@ -2,10 +2,12 @@ use native.Mathlib.Omega.{arith}
 use mathlib.Core.Path.{◌≡◌, sym, ap, ◌∙◌}
 use borrow.Author.Count.{below_more}
 use Rattle.ticket.specs.Rules.{setting_number}
-use Rattle.ticket.proofs.Laws.Limits.{number_by_lem, limits_of, setting_holds}
+use Rattle.ticket.proofs.Laws.Limits.{number_by_lem, limits_of}
+use Rattle.ticket.proofs.Laws.Limits.ClampedSmall.{setting_holds}
 use Rattle.ticket.specs.Laws.Widths.{widened}
 use Rattle.quote.specs.Rules.{figures}
-use Rattle.quote.proofs.Laws.Widths.{Tried, tried, tried_fits, tried_unfit, tried_refused, first_fitting, none_fitting}
+use Rattle.quote.proofs.Laws.Widths.{Tried, tried, tried_refused, first_fitting, none_fitting}
+use Rattle.quote.proofs.Laws.Widths.TriedUnfit.{tried_fits, tried_unfit}
 use Rattle.quote.proofs.Laws.Quotes.{quote_of_lem, limit_fails, no_width, smallest_width_lem, figures_unread}
 use Rattle.quote.proofs.quote_of.Goals as goal
 

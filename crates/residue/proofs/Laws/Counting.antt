@@ -9,19 +9,19 @@
 --   pigeonhole        of n different numbers below c, n is at most c
 --   at_most_below     at most c numbers are below c
 --   at_most_through   at most c things have Q, if f takes each to a thing that has P and no two to the same
---   at_most_members   a list of different things that all have P is at most c long
 --   at_most_words     at most c ^ s lists are words of s things that have P
 --   at_most_but_one   at most c - 1 things have P and are not a, where a has P
 --   exactly_below, exactly_through, exactly_words, exactly_but_one   in each of these ways exactly so many, where P had exactly c
 --   listed f c        the first c things that f gives, in order
 --   length_listed, get_or_listed   they are c, and f n stands at place n
---   exactly_members   some list of different things that all have P is c long
 use Rattle.std.specs.Prelude.{◌≡◌, ℕ, zero, suc, ◌+◌, ◌-◌, ◌*◌, ◌/◌, ◌%◌, ◌^◌, ◌<◌, ◌≤◌, min, List, [], ◌∷◌, length, ◌≢◌, slice_index_or}
 use Rattle.std.proofs.Math.Nat.{pow-zero, pow-suc, div-add-mod'}
 use Rattle.std.proofs.Common.{mod-lt, div-lt_iff_lt-mul, arith, sym, ◌∙◌, subst}
 use Rattle.std.proofs.Math.Arith.{digits_lt, digits_div, digits_mod}
 use Rattle.std.proofs.Math.Path.{refl, ap}
 use Rattle.residue.proofs.Laws.Modulo.{factor_positive}
+
+pub mod ExactlyButOne
 
 pub record AtMost {A : Type 0} (P : A → Type 0) (c : ℕ) : Type 0 where
   pub code : A → ℕ
@@ -93,11 +93,6 @@ at_most_through m f into apart =
     }
 
 module _ {A : Type 0} {P : A → Type 0} {c : ℕ} (m : AtMost P c) where
-  pub at_most_members : (d : A) (xs : List A) → ((i : ℕ) → i < length xs → P (slice_index_or xs i d)) → Different d xs → length xs ≤ c
-  at_most_members d xs all different =
-      pigeonhole (length xs) c (λ i. m.code (slice_index_or xs i d)) (λ i l. m.below _ (all i l))
-      (λ i j l k e. different i j l k (m.apart _ _ (all i (omega arith)) (all j k) e))
-
   -- the digits of a word to the base c, the first thing's last
   word_code : List A → ℕ
   word_code [] = 0
@@ -159,18 +154,6 @@ pub exactly_below : (c : ℕ) → Exactly (λ (n : ℕ). n < c) c
 unfolding at_most_below
 exactly_below c = record { most = at_most_below c; member = λ n. n; has = λ n h. h; coded = λ n h. refl }
 
-pub exactly_through : {A B : Type 0} {P : A → Type 0} {Q : B → Type 0} {c : ℕ} → Exactly P c → (f : B → A) (g : A → B)
-    → ((b : B) → Q b → P (f b)) → ((a b : B) → Q a → Q b → f a ≡ f b → a ≡ b) → ((a : A) → P a → Q (g a) × (f (g a) ≡ a))
-    → Exactly Q c
-unfolding at_most_through
-exactly_through m f g into apart back =
-    record {
-      most = at_most_through m.most f into apart;
-      member = λ n. g (m.member n);
-      has = λ n h. (back _ (m.has n h)).0;
-      coded = λ n h. ap m.most.code (back _ (m.has n h)).1 ∙ m.coded n h;
-    }
-
 pub listed : {A : Type 0} → (ℕ → A) → ℕ → List A
 listed f zero = []
 listed f (suc c) = f 0 ∷ listed (λ n. f (suc n)) c
@@ -187,20 +170,6 @@ get_or_listed f (suc c) zero d h = refl
 get_or_listed f (suc c) (suc n) d h = get_or_listed (λ n. f (suc n)) c n d (omega arith)
 
 module _ {A : Type 0} {P : A → Type 0} {c : ℕ} (m : Exactly P c) where
-  pub exactly_members : (d : A) → (xs : List A) × (length xs ≡ c) × Different d xs × ((i : ℕ) → i < length xs → P (slice_index_or xs i d))
-  exactly_members d = (
-    listed m.member c,
-    long,
-    λ i j l k e. omega (arith, code i (omega (arith, long)), code j (omega (arith, long)), ap m.most.code e),
-    λ i l. subst P (sym (get_or_listed m.member c i d (omega (arith, long)))) (m.has i (omega (arith, long))),
-  )
-    where
-      long : length (listed m.member c) ≡ c
-      long = length_listed m.member c
-
-      code : (i : ℕ) → i < c → m.most.code (slice_index_or (listed m.member c) i d) ≡ i
-      code i l = ap m.most.code (get_or_listed m.member c i d l) ∙ m.coded i l
-
   -- the word whose digits to the base c are those of n
   word_of : ℕ → ℕ → List A
   word_of zero n = []
@@ -221,20 +190,3 @@ module _ {A : Type 0} {P : A → Type 0} {c : ℕ} (m : Exactly P c) where
       let k : n < c ^ s * c = rw pow-suc at h in
       let base = factor_positive (c ^ s) c n k in
       cc (m.coded _ (mod-lt n base), word_coded s (n / c) ((div-lt_iff_lt-mul base).1 k), div-add-mod' n c)
-
-  pub exactly_words : (s : ℕ) → Exactly (Word P s) (c ^ s)
-  unfolding at_most_words
-  exactly_words s = record { most = at_most_words m.most s; member = word_of s; has = word_has s; coded = word_coded s }
-
-  pub exactly_but_one : (a : A) → P a → Exactly (λ (b : A). P b × (b ≢ a)) (c - 1)
-  unfolding at_most_but_one
-  exactly_but_one a p =
-      record {
-        most = at_most_but_one m.most a p;
-        member = λ n. m.member (open_gap v n);
-        has = λ n h. (m.has _ (gap_within v h), λ e. gap_free v n (sym (m.coded _ (gap_within v h)) ∙ ap m.most.code e));
-        coded = λ n h. ap (close_gap v) (m.coded _ (gap_within v h)) ∙ gap_closes v n;
-      }
-    where
-      v : ℕ
-      v = m.most.code a

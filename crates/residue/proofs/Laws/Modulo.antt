@@ -7,7 +7,6 @@
 --   mod_once           a number from p to 2p is reduced by one subtraction
 --   carried_words      it by two sums modulo 2^32
 --   carried_low, carried_high   it for v in the lower half, and in the upper, where the sum passes p
---   carried_sum_lem        it is the sum modulo p, where that and s are in the lower half; p is odd and has at most 31 bits
 --   pow_pow            a power of a power
 --   factor_positive    a product that is above some number has no factor 0
 use Rattle.std.specs.Prelude.{◌≡◌, ℕ, zero, suc, ◌+◌, ◌-◌, ◌*◌, ◌/◌, ◌%◌, ◌^◌, ◌<◌, ◌≤◌}
@@ -16,6 +15,9 @@ use Rattle.std.proofs.Common.{mul_comm, pow-suc, zero-mul, suc-mul, mul-zero, sy
 use Rattle.std.proofs.Math.Decide.{dec_lt}
 use native.Mathlib.Omega.{arith}
 use Rattle.residue.specs.Laws.Modulo.{carried_sum}
+
+pub mod CarriedHigh
+pub mod CarriedSumLem
 
 pub mod_of_multiples : (p a b x y : ℕ) → a + p * x ≡ b + p * y → a % p ≡ b % p
 mod_of_multiples p a b x y e = sym (add-mul-mod_self_left a p x) ∙ ap (λ n. n % p) e ∙ add-mul-mod_self_left b p y
@@ -47,27 +49,6 @@ module _ (p : ℕ) (odd : p % 2 ≡ 1) (few : p < 2 ^ 31) (v s : ℕ) where
       let word : v + s < 2 ^ 32 = omega arith in
       let below : v + s < p + 1 = omega arith in
       rw (none, same, mod-eq_of_lt word, mod-eq_of_lt below)
-
-  pub carried_high : (p + 1) / 2 ≤ v → v < p → p ≤ v + s → s ≤ p → carried_sum p v s ≡ v + s - p
-  unfolding carried_sum
-  carried_high high below past most =
-      let one : v / ((p + 1) / 2) ≡ 1 = div-eq_of_lt-le ((p + 1) / 2) (omega arith) (omega arith) in
-      let word : v + s + 1 < 2 ^ 32 = omega arith in
-      rw (one, mod-eq_of_lt word) (mod_once (p + 1) (v + s + 1) (omega arith) (omega arith) ∙ omega arith)
-
-  pub carried_sum_lem : v < p → s < (p + 1) / 2 → (v + s) % p < (p + 1) / 2 → carried_sum p v s ≡ (v + s) % p
-  carried_sum_lem below most least =
-      elim (dec_lt v ((p + 1) / 2)) [
-        | yes low ↦
-            let sum : v + s < p = omega arith in
-            carried_low low (omega arith) ∙ sym (mod-eq_of_lt sum)
-        | no high ↦
-            let past : p ≤ v + s = elim (dec_lt (v + s) p) [
-              | yes l ↦ let same : (v + s) % p ≡ v + s = mod-eq_of_lt l in absurd (omega arith)
-              | no h ↦ omega arith
-            ] in
-            carried_high (omega arith) below past (omega arith) ∙ sym (mod_once p (v + s) past (omega arith))
-      ]
 
 pub pow_pow : (b m s : ℕ) → (b ^ m) ^ s ≡ b ^ (s * m)
 pow_pow b m zero = pow-zero (b ^ m) ∙ sym (ap (λ n. b ^ n) (zero-mul m) ∙ pow-zero b)

@@ -8,8 +8,6 @@
 --   residue_of_residue     a number below p is its own least residue
 --   residue_sum, residue_difference, residue_product   it respects these operations
 --   residue_zero           it is 0 exactly when p divides the integer
---   residue_same           two integers have the same least residue exactly when p divides their difference
---   residue_close          integers less than p apart with the same least residue are equal
 --   less_modulus           a number below p less p, as the kit writes a negative number
 --   entry_low, entry_high  the signed entry up to (p - 1)/2, and above
 --   residue_of_entry       the signed entry's least residue is the residue
@@ -24,6 +22,9 @@ use Rattle.std.proofs.lemmas.Bool.{lt-leb}
 use Rattle.residue.specs.Rules.{least_residue, signed_entry}
 use Rattle.residue.proofs.Laws.Modulo.{mod_of_multiples}
 use Rattle.residue.proofs.Laws.Integers.{positive, negative, equal_of_parts, parts_sum, parts_difference, parts_product}
+
+pub mod ResidueDifference
+pub mod ResidueClose
 
 abbrev pub Divides : ℕ → ℤ → Type 0
 Divides p z = (k : ℤ) × (z ≡ pos p *ℤ k)
@@ -98,13 +99,6 @@ module _ (p : ℕ) (above : 0 < p) where
       residue_by (x +ℤ y) (least_residue p x + least_residue p y) (negative k + negative l) (positive k + positive l)
       (omega (arith, parts_sum x y, residue_differs x, residue_differs y))
 
-  pub residue_difference : (x y : ℤ) → least_residue p (x -ℤ y) ≡ (least_residue p x + (p - least_residue p y)) % p
-  residue_difference x y =
-      let k = quotient x in
-      let l = quotient y in
-      residue_by (x -ℤ y) (least_residue p x + (p - least_residue p y)) (negative k + positive l + 1) (positive k + negative l)
-      (omega (arith, parts_difference x y, residue_differs x, residue_differs y, residue_below y))
-
   pub residue_product : (x y : ℤ) → least_residue p (x *ℤ y) ≡ (least_residue p x * least_residue p y) % p
   residue_product x y =
       let r = least_residue p x in
@@ -125,28 +119,6 @@ module _ (p : ℕ) (above : 0 < p) where
     λ d. residue_by z 0 (negative d.0) (positive d.0) (omega (arith, parts_product (pos p) d.0, ap positive d.1, ap negative d.1))
         ∙ zero-mod p,
   )
-
-  whole : (z : ℤ) → (least_residue p z + (p - least_residue p z)) % p ≡ 0
-  whole z = ap (λ n. n % p) (omega (arith, residue_below z)) ∙ mod_self p
-
-  cancels : (x y : ℤ) → least_residue p x ≡ least_residue p y → least_residue p (x -ℤ y) ≡ 0
-  cancels x y e = residue_difference x y ∙ rw e (whole y)
-
-  pub residue_same : (x y : ℤ) → (least_residue p x ≡ least_residue p y) ↔ Divides p (x -ℤ y)
-  residue_same x y = (
-    λ e. (residue_zero (x -ℤ y)).0 (cancels x y e),
-    λ d. residue_shift x y (negative d.0) (positive d.0)
-        (omega (arith, parts_difference x y, parts_product (pos p) d.0, ap positive d.1, ap negative d.1)),
-  )
-
-  pub residue_close : (x y : ℤ) → unsigned_abs (x -ℤ y) < p → least_residue p x ≡ least_residue p y → x ≡ y
-  unfolding least_residue
-  residue_close x y h e = equal_of_parts x y (omega (arith, parts_difference x y, nothing (x -ℤ y) h (cancels x y e)))
-    where
-      nothing : (z : ℤ) → unsigned_abs z < p → least_residue p z ≡ 0 → (positive z ≡ 0) × (negative z ≡ 0)
-      nothing (pos n) h e = (sym (mod-eq_of_lt h) ∙ e, refl)
-      nothing (negsuc n) h e =
-          absurd (omega (arith, complement_zero p (suc n % p) (mod-lt (suc n) above) e, mod-eq_of_lt h))
 
   pub entry_low : (r : ℕ) → r ≤ (p - 1) / 2 → signed_entry p r ≡ pos r
   unfolding signed_entry

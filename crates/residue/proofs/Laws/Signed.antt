@@ -4,9 +4,6 @@
 --   widened_is       read back from the wider bits, it is itself
 --   wide_sum z k      the 32-bit number z, as it is read after the cast to 64 bits, and k added to it
 --   lifted z k       that sum, as it is read from its bits
---   lifted_fits      the sum fits, where k is from 2^31 to 2^62
---   lifted_natural   it is then not negative, and fits as an unsigned number
---   lifted_residue   its least residue is that of z, where k is a multiple of p
 --   natural_is, natural_cast   a number that is not negative, read back, and cast to 32 bits without sign
 --   read-back, read_fits, read_stored   a number that fits is itself where it is read at a wider width, fits, and is stored as it was
 --   small_fits, small_fits_wide   a number of at most 15 bits fits 16 and 32 bits
@@ -21,6 +18,8 @@ use Rattle.std.proofs.Math.Facts.{sfits_widen}
 use Rattle.residue.specs.Rules.{least_residue}
 use Rattle.residue.proofs.Laws.Integers.{positive, negative, equal_of_parts, parts_sum}
 use Rattle.residue.proofs.Laws.Residues.{residue_shift}
+
+pub mod LiftedResidue
 
 abbrev pub wide_sum : ℤ → ℕ → ℤ
 wide_sum z k = to_z w64 (of_z w64 (to_z w32 (of_z w32 z))) +ℤ pos k
@@ -40,40 +39,12 @@ pub widened_is : {narrow : Width} {z : ℤ} (wide : Width) → T (nat_le (hbits 
     → to_z wide (of_z wide (to_z narrow (of_z narrow z))) ≡ z
 widened_is wide wider fits = to_z-of_z (widened {wide = wide} wider fits) ∙ to_z-of_z fits
 
-module _ (z : ℤ) (fits : FitsSigned w32 z) where
-  module _ (k : ℕ) (low : 2 ^ 31 ≤ k) (high : k ≤ 2 ^ 62) where
-    sum_is : wide_sum z k ≡ pos (positive z + k - negative z)
-    sum_is =
-        ap (λ y. y +ℤ pos k) (widened_is w64 tt fits)
-        ∙ equal_of_parts (z +ℤ pos k) (pos (positive z + k - negative z))
-        (omega (arith, parts_sum z (pos k), parts_mag z, fits.sfits))
-
-    pub lifted_fits : FitsSigned w64 (wide_sum z k)
-    lifted_fits = subst⁻¹ (FitsSigned w64) sum_is (record { sfits = omega (arith, parts_mag z, fits.sfits) })
-
-    lifted_is : lifted z k ≡ pos (positive z + k - negative z)
-    lifted_is = to_z-of_z lifted_fits ∙ sum_is
-
-    pub lifted_natural : T (non_neg (lifted z k)) × Fits w64 (unsigned_abs (lifted z k))
-    lifted_natural =
-        subst⁻¹ (λ y. T (non_neg y) × Fits w64 (unsigned_abs y)) lifted_is
-        (tt, record { fits = omega (arith, parts_mag z, fits.sfits) })
-
-    pub lifted_residue : (p b : ℕ) → 0 < p → k ≡ p * b → least_residue p (pos (unsigned_abs (lifted z k))) ≡ least_residue p z
-    lifted_residue p b above e =
-        ap (λ y. least_residue p (pos (unsigned_abs y))) lifted_is
-        ∙ residue_shift p above (pos (positive z + k - negative z)) z 0 b (omega (arith, parts_mag z, fits.sfits))
-
--- a number that is not negative, read back and cast to 32 bits without sign
-
 module _ {w : Width} {y : ℤ} {n : ℕ} (fits : FitsSigned w y) (is : y ≡ pos n) where
   pub natural_is : unsigned_abs (to_z w (of_z w y)) ≡ n
   natural_is = ap unsigned_abs (to_z-of_z fits ∙ is)
 
   pub natural_cast : n < 2 ^ 32 → T (non_neg (to_z w (of_z w y))) × Fits w32 (unsigned_abs (to_z w (of_z w y)))
   natural_cast small = subst⁻¹ (λ z. T (non_neg z) × Fits w32 (unsigned_abs z)) (to_z-of_z fits ∙ is) (tt, record { fits = small })
-
--- a number that fits, read at a wider width and stored again
 
 module _ {narrow : Width} (wide : Width) {z : ℤ} (wider : T (nat_le (hbits narrow) (hbits wide))) (fits : FitsSigned narrow z) where
   pub read_back : to_z wide (of_z wide z) ≡ z
@@ -84,8 +55,6 @@ module _ {narrow : Width} (wide : Width) {z : ℤ} (wider : T (nat_le (hbits nar
 
   pub read_stored : to_z narrow (of_z narrow (to_z wide (of_z wide z))) ≡ z
   read_stored = to_z-of_z read_fits ∙ read_back
-
--- a number of at most 15 bits, read back and cast to 16 bits
 
 pub small_fits : (z : ℤ) → unsigned_abs z < 2 ^ 15 → FitsSigned w16 z
 small_fits (pos n) small = record { sfits = omega arith }

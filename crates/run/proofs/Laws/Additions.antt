@@ -27,7 +27,8 @@ use Rattle.ticket.specs.declared.Answer.{Answer}
 use Rattle.ticket.specs.Rules.{unless, refusal, after, most_inner, most_columns, most_vectors, plain, setting_number}
 use Rattle.ticket.proofs.Laws.Answers.{unless_zero, after_zero}
 use Rattle.ticket.specs.Laws.Limits.{Sizes}
-use Rattle.ticket.proofs.Laws.Limits.{both, limits_of, setting_holds}
+use Rattle.ticket.proofs.Laws.Limits.{both, limits_of}
+use Rattle.ticket.proofs.Laws.Limits.ClampedSmall.{setting_holds}
 use Rattle.ticket.proofs.Laws.Scans.{after_passed, after_first, after_second, after_together}
 use Rattle.ticket.specs.Laws.Vectors.{vectored}
 use Rattle.ticket.proofs.Laws.Vectors.{vectored_number}

@@ -5,14 +5,6 @@
 --   kept_ended         it is then the answer of the challenge check with the state's list
 --   Reached t P y k a  what holds of an answer after k steps, where the list is y: its state is kept, and the answer is the state's own or a refusal;
 --                      the setting is P but for the number of vectors; while the run is under way, k rows are done
---   step_reached, add_reached, reached   it holds after a step, after an addition, and after all actions of a run
---   run_reached        it holds of every answer of a run that has begun
---   run_refused        a run that was refused at its beginning is refused ever after
---   run_ends           the answer that ends a run is that of the challenge check with the final list (S3)
---   run_list           the final list is that of the beginning with the vectors that were added; it is well formed, and s is its count (S3)
---   run_under_way      while a run is under way its numbers are those of the rows done, all of which are balanced (S3)
---   complete_number    a run that ends complete has the number 0
---   run_stops          after as many steps as the rows of the final list's vectors the run is caught or complete (S4)
 use Rattle.std.specs.Prelude.{ℕ, ◌+◌, ◌*◌, ◌≤◌, ◌<◌, ◌≡◌, refl, Bool, true, false, cond, ◌||◌, List, [], ◌∷◌, ◌++◌, ◌⊎◌, eqb}
 use Rattle.std.proofs.Math.Decide.{ℕ_discrete}
 use Rattle.std.proofs.Common.{arith, sym, ap, ◌∙◌, true≢false, append_assoc, append-nil, inl, inr}
@@ -26,13 +18,17 @@ use Rattle.ticket.proofs.Laws.Answers.{after_zero}
 use Rattle.ticket.proofs.Laws.First.{true_or_false}
 use Rattle.challenge.specs.Rules.{WellFormed, testing, list_reading, balanced, challenge_check, accepted, caught}
 use Rattle.challenge.proofs.Laws.Lists.{well_formed_is}
-use Rattle.soundness.proofs.Laws.Answers.{accepted_exactly, caught_exactly}
+use Rattle.soundness.proofs.Laws.Answers.AnswerInTable.{accepted_exactly, caught_exactly}
 use Rattle.run.specs.declared.Run.{Run}
 use Rattle.run.specs.declared.RunAnswer.{RunAnswer}
 use Rattle.run.specs.Rules.{layer, held_list, is_past, is_caught, is_finished, products_done, under_way, caught_mark, complete, refused, marked, standing, zeros, begun, beginning, worked, stepping, with_vectors, lengthened, addition_reading, adding, Action, step, add, acting, last_answer, ran, steps, added}
 use Rattle.run.proofs.Laws.Additions.{addition_passed, addition_sizes, unfinished_open}
 use Rattle.run.proofs.Laws.Kept.{Kept, kept_begun, kept_worked, kept_lengthened, held_begun, held_lengthened}
 use Rattle.run.proofs.Laws.States.{unfinished, not_past, standing_past, standing_caught, standing_under, tested_refused, tested_passed, worked_is, worked_same, worked_count, testing_passed}
+
+pub mod RunStops
+pub mod RunRefused
+pub mod CompleteNumber
 
 pub standing_run : (R : Run) → (standing R).run ≡ R
 unfolding standing
@@ -144,57 +140,9 @@ module _ {t : List ℕ} {P : PlainSetting} {y : List ℕ} {k : ℕ} {a : RunAnsw
   rows_same : R.setting.rows ≡ P.rows
   rows_same = ap (λ Q. Q.rows) reach.setting
 
-  pub step_reached : Reached t P y (1 + k) (stepping R t)
-  step_reached =
-      ⊎_elim
-      (λ finished. from_state R (stepped reach.kept ∙ rw finished) reach.kept reach.setting reach.list
-      (λ going. absurd (true≢false (sym finished ∙ going))))
-      (λ going. let W = worked_is R t in
-      let same = worked_same W in
-      let there = not_past R (unfinished R going).0 in
-      from_state (worked R t) (stepped reach.kept ∙ rw going) (kept_worked reach.kept going W)
-      (rw same.0 reach.setting) (same.1 ∙ reach.list)
-      (λ on. counts (worked R t).vector (worked R t).row (worked_count there.1 W on) (reach.counted going)))
-      (true_or_false (is_finished R))
-    where
-      counts : (τ i : ℕ) → τ * R.setting.rows + i ≡ R.vector * R.setting.rows + R.row + 1 → R.vector * P.rows + R.row ≡ k
-          → τ * P.rows + i ≡ 1 + k
-      counts τ i e before =
-          let moved : τ * P.rows + i ≡ R.vector * P.rows + R.row + 1 = rw rows_same at e in
-          omega arith
-
   -- the numbers that an addition adds
   abbrev joining : List ℕ → List ℕ
   joining v = unless (eqb (adding R v).mark refused) v []
-
-  pub add_reached : (v : List ℕ) → Reached t P (y ++ joining v) k (adding R v)
-  add_reached v =
-      elim (ℕ_discrete (addition_reading R v).number 0) [
-        | yes z ↦
-            let passed = addition_passed R v z in
-            let is : adding R v ≡ standing (lengthened R v) = sym (tested_passed R refl z refl) in
-            let joins : joining v ≡ v = rw (ne_eqb (adding R v).mark refused (λ e. standing_mark (lengthened R v) (sym (ap (λ b. b.mark) is) ∙ e))) in
-            rw joins
-            (from_state (lengthened R v) is (kept_lengthened reach.kept passed)
-            (ap (λ Q. with_vectors Q (R.setting.vectors + 1)) reach.setting)
-            (held_lengthened passed reach.kept.long ∙ ap (λ l. l ++ v) reach.list)
-            (λ going. reach.counted (unfinished_open passed)))
-        | no d ↦
-            let is : adding R v ≡ marked R refused (addition_reading R v) = sym (tested_refused R refl (standing (lengthened R v)) d refl) in
-            let joins : joining v ≡ [] = rw (eq-eqb (adding R v).mark refused (ap (λ b. b.mark) is)) in
-            rw (joins, append-nil y, is)
-            (record { kept = reach.kept; said = inr refl; setting = reach.setting; list = reach.list; counted = reach.counted })
-      ]
-
-pub reached : {t : List ℕ} {P : PlainSetting} {y : List ℕ} {k : ℕ} {a : RunAnswer} → Reached t P y k a → (αs : List Action)
-    → Reached t P (y ++ added t a αs) (k + steps αs) (last_answer t a αs)
-unfolding added steps last_answer acting
-reached {y = y} {k} reach [] = let none : k + 0 ≡ k = omega arith in rw (append-nil y, none) reach
-reached {t} {y = y} {k} {a} reach (step ∷ rest) =
-    let more : k + (1 + steps rest) ≡ 1 + k + steps rest = omega arith in
-    rw more (reached {k = 1 + k} (step_reached reach) rest)
-reached {t} {y = y} {k} {a = a} reach (add v ∷ rest) =
-    rw (← append_assoc y (joining reach v) (added t (adding a.run v) rest)) (reached {y = y ++ joining reach v} (add_reached reach v) rest)
 
 -- a state of zeros is refused by every call
 zeros_refused : (t : List ℕ) (α : Action) → (b : Answer) × (acting t zeros α ≡ marked zeros refused b)
@@ -212,11 +160,6 @@ zeros_refused t (add v) =
           (λ z. let sizes = addition_sizes (addition_passed zeros v z) in omega arith) refl),
     )
 
-zeros_ever : (t : List ℕ) (b : Answer) (αs : List Action) → (last_answer t (marked zeros refused b) αs).mark ≡ refused
-unfolding last_answer
-zeros_ever t b [] = refl
-zeros_ever t b (α ∷ rest) = let next = zeros_refused t α in ap (λ a. (last_answer t a rest).mark) next.1 ∙ zeros_ever t next.0 rest
-
 mark_number : (R : Run) → (standing R).mark ≡ complete → (standing R).answer.number ≡ 0
 unfolding standing
 mark_number R = by_tests (is_past R) (is_caught R) _ _ _
@@ -227,8 +170,6 @@ mark_number R = by_tests (is_past R) (is_caught R) _ _ _
     by_tests true stopped n b k e = refl
     by_tests false true n b k e = absurd (omega arith)
     by_tests false false n b k e = refl
-
--- runs from their beginning
 
 pub record Final (P : PlainSetting) (x more : List ℕ) (R : Run) : Type 0 where
   pub setting : R.setting ≡ with_vectors P R.setting.vectors
@@ -278,9 +219,6 @@ module _ (P : PlainSetting) (t x : List ℕ) (αs : List Action) where
         from_state (begun P x) (sym (tested_passed zeros refl passes refl)) (kept_begun P t x passes) refl
         (held_begun P x (omega (arith, ready.list.size, ready.passed.counts))) (λ going. omega arith)
 
-    pub run_reached : Reached t P (x ++ added t (beginning P t x) αs) (steps αs) last
-    run_reached = let none : 0 + steps αs ≡ steps αs = omega arith in rw none at (reached begins αs)
-
   -- a beginning that is not refused
   begun_tests : (beginning P t x).mark ≡ under_way → (testing (plain P) t x).number ≡ 0
   begun_tests e =
@@ -289,58 +227,4 @@ module _ (P : PlainSetting) (t x : List ℕ) (αs : List Action) where
         | no d ↦
             let mark : (beginning P t x).mark ≡ refused = sym (ap (λ a. a.mark) (tested_refused zeros refl (standing (begun P x)) d refl)) in
             absurd (omega arith)
-      ]
-
-  pub run_refused : ((testing (plain P) t x).number ≡ 0 → ⊥) → last.mark ≡ refused
-  run_refused d =
-      let is : beginning P t x ≡ marked zeros refused (testing (plain P) t x) = sym (tested_refused zeros refl (standing (begun P x)) d refl) in
-      rw is (zeros_ever t (testing (plain P) t x) αs)
-
-  pub run_ends : Ended last → last.answer ≡ challenge_check (layer last.run) t (held_list last.run)
-  run_ends ended =
-      elim (ℕ_discrete (testing (plain P) t x).number 0) [
-        | yes z ↦
-            let reach = run_reached z in
-            ⊎_elim
-            (λ e. ap (λ a. a.answer) e ∙ kept_ended reach.kept (rw e at ended))
-            (λ e. absurd (not_refused e))
-            reach.said
-        | no d ↦ absurd (not_refused (run_refused d))
-      ]
-    where
-      not_refused : last.mark ≡ refused → ⊥
-      not_refused e = ⊎_elim (λ f. omega arith) (λ f. omega arith) ended
-
-  module _ (begins : (beginning P t x).mark ≡ under_way) where
-    pub run_list : Final P x (added t (beginning P t x) αs) last.run
-    run_list =
-        let reach = run_reached (begun_tests begins) in
-        record { setting = reach.setting; list = reach.list; formed = formed reach.kept }
-
-    pub run_under_way : last.mark ≡ under_way → UnderWay t (steps αs) last
-    run_under_way e =
-        let reach = run_reached (begun_tests begins) in
-        ⊎_elim (λ said. under_way_lem reach said e) (λ f. absurd (omega arith)) reach.said
-
-    pub run_stops : P.rows * last.run.setting.vectors ≤ steps αs → (is_finished last.run ≡ true) × Ended (stepping last.run t)
-    run_stops enough =
-        let reach = run_reached (begun_tests begins) in
-        let R = last.run in
-        let rows : R.setting.rows ≡ P.rows = ap (λ Q. Q.rows) reach.setting in
-        let finished : is_finished R ≡ true =
-        ⊎_elim (λ f. f)
-        (λ going. let there = not_past R (unfinished R going).0 in
-        absurd (omega (arith, reach.counted going, digits_lt there.0 (rw rows at there.1))))
-        (true_or_false (is_finished R)) in
-        (finished, rw (stepped reach.kept, finished) (standing_ended R finished))
-
-  pub complete_number : last.mark ≡ complete → last.answer.number ≡ 0
-  complete_number e =
-      elim (ℕ_discrete (testing (plain P) t x).number 0) [
-        | yes z ↦
-            ⊎_elim
-            (λ said. ap (λ a. a.answer.number) said ∙ mark_number last.run (sym (ap (λ a. a.mark) said) ∙ e))
-            (λ f. absurd (omega arith))
-            (run_reached z).said
-        | no d ↦ let mark = run_refused d in absurd (omega arith)
       ]

@@ -6,7 +6,6 @@
 --   TestsRow G a       a is a refusal of the ordinary tests
 --   AdditionRow P a    a is a refusal of the tests of an addition
 --   CallRow R Q b      b is a refusal that is a row of Q, handing back the state R, or the answer of a state
---   begin_in_table, step_in_table, add_in_table   every answer of begin, of a step and of an addition is such a row
 use Rattle.std.specs.Prelude.{ℕ, ◌*◌, ◌≤◌, ◌<◌, ◌≡◌, refl, Bool, true, false, ◌||◌, List, ◌++◌, ◌⊎◌}
 use Rattle.std.proofs.Math.Decide.{ℕ_discrete}
 use Rattle.std.proofs.Common.{sym, ap, subst, ◌∙◌, inl, inr, ⊎_elim, leb-true}
@@ -15,8 +14,10 @@ use Rattle.ticket.specs.declared.setting.Setting.{Setting}
 use Rattle.ticket.specs.declared.Answer.{Answer}
 use Rattle.ticket.specs.Rules.{answer, refusal, unless, after, reading, plain, setting_number}
 use Rattle.ticket.proofs.Laws.First.{true_or_false}
-use Rattle.ticket.proofs.Laws.Limits.{SettingRow, setting_in_table}
-use Rattle.ticket.proofs.Laws.Refusals.{ReadingRow, passed_or_refused, passed_reading, refused_reading, refused_in_table}
+use Rattle.ticket.proofs.Laws.Limits.BiasSmall.{SettingRow}
+use Rattle.ticket.proofs.Laws.Limits.SettingInTable.{setting_in_table}
+use Rattle.ticket.proofs.Laws.Refusals.{ReadingRow, passed_or_refused, passed_reading, refused_reading}
+use Rattle.ticket.proofs.Laws.Refusals.RefusedInTable.{refused_in_table}
 use Rattle.ticket.proofs.Laws.Scans.{after_passed, after_refused}
 use Rattle.ticket.proofs.Laws.Tests.{hold_or_failed, holding_number, failed_number}
 use Rattle.challenge.specs.Rules.{testing, list_reading, challenge_products, caught_products}
@@ -25,6 +26,8 @@ use Rattle.run.specs.declared.Run.{Run}
 use Rattle.run.specs.declared.RunAnswer.{RunAnswer}
 use Rattle.run.specs.Rules.{layer, held_list, is_past, is_caught, products_done, under_way, caught_mark, complete, refused, marked, standing, tested, zeros, begun, beginning, stepping, one_more, lengthened, is_open, addition_reading, adding}
 use Rattle.run.proofs.Laws.States.{not_past, standing_past, standing_caught, standing_under, tested_refused, tested_passed}
+
+pub mod AddInTable
 
 pub data StateRow : RunAnswer → Type 0 where
   complete_row : (R : Run) → (R.setting.vectors ≤ R.vector) ⊎ (R.setting.rows ≤ R.row)
@@ -53,8 +56,6 @@ pub data CallRow (R : Run) (Q : Answer → Type 0) : RunAnswer → Type 0 where
   refused_row : {a : Answer} → Q a → CallRow R Q (marked R refused a)
   state_row : {b : RunAnswer} → StateRow b → CallRow R Q b
 
--- a state
-
 either : (a b : Bool) → (a || b) ≡ true → (a ≡ true) ⊎ (b ≡ true)
 either true b e = inl refl
 either false b e = inr e
@@ -73,8 +74,6 @@ state_in_table R =
     (λ free. subst StateRow (sym (standing_under R inside free)) (under_way_row R there.0 there.1))
     (true_or_false (is_caught R)))
     (true_or_false (is_past R))
-
--- tests
 
 -- an answer in two parts, where it refuses
 two_parts : (Q : Answer → Type 0) (a b : Answer) → ((a.number ≡ 0 → ⊥) → Q a) → ((b.number ≡ 0 → ⊥) → Q b)
@@ -123,21 +122,3 @@ addition_in_table R v =
         → AdditionRow R.setting (unless open' (refusal 22 0) (refusal 0 0))
     last_row true d = absurd (d refl)
     last_row false d = closed_row
-
--- the calls
-
-call_in_table : (R S : Run) (Q : Answer → Type 0) (a : Answer) → ((a.number ≡ 0 → ⊥) → Q a) → CallRow R Q (tested R a (standing S))
-call_in_table R S Q a row =
-    elim (ℕ_discrete a.number 0) [
-      | yes z ↦ subst (CallRow R Q) (tested_passed R refl z refl) (state_row (state_in_table S))
-      | no d ↦ subst (CallRow R Q) (tested_refused R refl (standing S) d refl) (refused_row (row d))
-    ]
-
-pub begin_in_table : (P : PlainSetting) (t x : List ℕ) → CallRow zeros (TestsRow (plain P)) (beginning P t x)
-begin_in_table P t x = call_in_table zeros (begun P x) _ (testing (plain P) t x) (tests_in_table (plain P) t x)
-
-pub step_in_table : (R : Run) (t : List ℕ) → CallRow R (TestsRow (layer R)) (stepping R t)
-step_in_table R t = call_in_table R _ _ (testing (layer R) t (held_list R)) (tests_in_table (layer R) t (held_list R))
-
-pub add_in_table : (R : Run) (v : List ℕ) → CallRow R (AdditionRow R.setting) (adding R v)
-add_in_table R v = call_in_table R (lengthened R v) _ (addition_reading R v) (addition_in_table R v)

@@ -6,12 +6,6 @@
 --   Caught G t x τ i    the tests before pass, and row i of vector τ is the first that does not balance
 --   Answered G t x a    the condition of the answer a, no earlier test failing
 --   answer_of           where that condition holds, a is the answer
---   answered            for some a it holds
---   answer_exactly      the answer is a exactly when it holds
---   accepted_exactly    the answer is accepted G exactly when all tests pass and every row of every vector balances
---   accepted_number     an answer with number 0 is that one
---   caught_exactly      the answer is caught G τ i exactly when row i of vector τ is the first that does not balance
---   answer_in_table     every answer is a row of the table
 use Rattle.std.specs.Prelude.{ℕ, ◌*◌, ◌≤◌, ◌<◌, ◌≡◌, refl, true, false, ◌↔◌, List, eqb, length, get_or}
 use Rattle.std.proofs.Common.{arith, sym, ◌∙◌, true≢false, ⊎_elim}
 use Rattle.std.proofs.Math.Path.{ap}
@@ -24,11 +18,14 @@ use Rattle.ticket.proofs.Laws.Answers.{first_past}
 use Rattle.ticket.proofs.Laws.First.{first_is, FirstFailure, holds_or_first}
 use Rattle.ticket.proofs.Laws.Tests.{reading_not_later}
 use Rattle.ticket.proofs.Laws.Scans.{scan_none, scan_is}
-use Rattle.ticket.proofs.Laws.Refusals.{Refused, passed_reading, passed_or_refused, refused_reading, refused_number, ReadingRow, refused_in_table}
+use Rattle.ticket.proofs.Laws.Refusals.{Refused, passed_reading, passed_or_refused, refused_reading, refused_number, ReadingRow}
+use Rattle.ticket.proofs.Laws.Refusals.RefusedInTable.{refused_in_table}
 use Rattle.challenge.specs.Rules.{challenge_products, caught_products, WellFormed, balanced, first_row, accepted, caught, verdict, challenge_check, Accepted}
 use Rattle.challenge.proofs.Laws.Checks.{check_ticket, check_list, check_rows}
 use Rattle.challenge.specs.Laws.Lists.{ZeroVector}
 use Rattle.challenge.proofs.Laws.Lists.{well_formed_is, other_length, first_large, first_zero, ListAnswer, other_count, large_number, zero_at, formed, list_answered}
+
+pub mod AnswerInTable
 
 pub data TableRow (G : Setting) : Answer → Type 0 where
   accepted_row : TableRow G (answer 0 0 0 (challenge_products G))
@@ -124,17 +121,6 @@ module _ (G : Setting) (t x : List ℕ) where
   answered_list p (zero_at {τ} e a l h z) = (refusal 21 τ, zero_vector p e a l h z)
   answered_list p (formed entries) = answered_vectors p ((well_formed_is G x).1 entries)
 
-  pub answered : (a : Answer) × Answered G t x a
-  answered =
-      ⊎_elim (λ p. answered_list (ap (λ a. a.number) (passed_reading G t p)) (list_answered G x)) (λ r. (refusal r.0 r.1, refused r.2))
-      (passed_or_refused G t)
-
-  pub answer_exactly : (a : Answer) → (challenge_check G t x ≡ a) ↔ Answered G t x a
-  answer_exactly a = (
-    λ e. let same : answered.0 ≡ a = sym (answer_of answered.1) ∙ e in rw same at answered.1,
-    answer_of,
-  )
-
   -- what the number of an answer says of its condition
   condition_of : {a : Answer} → Answered G t x a → (a.number ≡ 0 → Balances G t x) × (a.number ≡ 12 → Caught G t x a.place a.row)
   condition_of (refused r) =
@@ -146,15 +132,6 @@ module _ (G : Setting) (t x : List ℕ) where
   condition_of (first_unbalanced c) = (λ e. absurd (omega arith), λ e. c)
   condition_of (all_balanced b) = (λ e. b, λ e. absurd (omega arith))
 
-  pub accepted_exactly : (challenge_check G t x ≡ accepted G) ↔ Balances G t x
-  accepted_exactly = (λ e. (condition_of ((answer_exactly (accepted G)).0 e)).0 refl, λ b. answer_of (all_balanced b))
-
-  pub accepted_number : Accepted G t x → challenge_check G t x ≡ accepted G
-  accepted_number e = answer_of (all_balanced ((condition_of ((answer_exactly (challenge_check G t x)).0 refl)).0 e))
-
-  pub caught_exactly : (τ i : ℕ) → (challenge_check G t x ≡ caught G τ i) ↔ Caught G t x τ i
-  caught_exactly τ i = (λ e. (condition_of ((answer_exactly (caught G τ i)).0 e)).1 refl, λ c. answer_of (first_unbalanced c))
-
   row_of : {a : Answer} → Answered G t x a → TableRow G a
   row_of (refused r) = reading_row (refused_in_table r)
   row_of (list_length p d) = list_length_row
@@ -162,6 +139,3 @@ module _ (G : Setting) (t x : List ℕ) where
   row_of (zero_vector {τ} p e a l h z) = zero_vector_row τ l
   row_of (first_unbalanced {τ} {i} c) = caught_row τ i c.vector_within c.row_within
   row_of (all_balanced b) = accepted_row
-
-  pub answer_in_table : TableRow G (challenge_check G t x)
-  answer_in_table = row_of ((answer_exactly (challenge_check G t x)).0 refl)

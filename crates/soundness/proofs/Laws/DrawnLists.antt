@@ -7,30 +7,38 @@
 --   count_with_zero, count_without_zero   (b^n - 1)^s where 0 is in the set, b^(s·n) where it is not
 --   one_drawn_accepted        of two lists that differ only in a column in which the ticket is false, not both are accepted
 --   drawn_accepted_few        with a false ticket, at most as many different ones are accepted as there are of one column less (N1)
---   drawn_accepted_share      these, times b^s, are at most as many as there are (N2)
 --   drawn_well_formed_at_most, drawn_well_formed_reached   so many different ones are well formed at most, and some are so many (N2)
 --   Below c x                 every number of the list x is below c
 --   below_residues            those of a well-formed list are below p
 --   range_allowed             the numbers below c are a set, where c is at most p
 --   range_drawn               the lists drawn from it are those of numbers below c
---   below_few, below_share, below_exactly   the counts of these
 use Rattle.std.specs.Prelude.{ℕ, ◌+◌, ◌-◌, ◌*◌, ◌^◌, ◌≤◌, ◌<◌, ◌≡◌, refl, ◌↔◌, Bool, true, false, cond, List, [], length, get_or}
 use Rattle.std.proofs.Common.{mul-le-mul_right, arith, sym, ap, ◌∙◌}
 use Rattle.std.proofs.lemmas.Bool.{false≢true}
 use Rattle.std.proofs.Math.Arith.{digits_lt}
 use Rattle.residue.specs.Rules.{modulus}
-use Rattle.residue.proofs.Laws.Modulus.{modulus_prime}
-use Rattle.residue.proofs.Laws.Counting.{Exactly, Different, at_most_members, exactly_through, exactly_members}
+use Rattle.residue.proofs.Laws.Modulus.PartnerModuli.{modulus_prime}
+use Rattle.residue.proofs.Laws.Counting.{Exactly, Different}
+use Rattle.residue.proofs.Laws.Counting.ExactlyButOne.{at_most_members, exactly_through, exactly_members}
 use Rattle.algebra.proofs.Laws.Positions.{by_rows}
-use Rattle.algebra.proofs.Laws.Sets.{contains, contained_below, contained_exactly, range, range_length, range_at, range_contains, range_different}
+use Rattle.algebra.proofs.Laws.Sets.{contains, range, range_length, range_at}
+use Rattle.algebra.proofs.Laws.Sets.ContainedExactly.{contained_below, contained_exactly}
+use Rattle.algebra.proofs.Laws.Sets.RangeContains.{range_contains}
+use Rattle.algebra.proofs.Laws.Sets.RangeDifferent.{range_different}
 use Rattle.algebra.proofs.Laws.Drawn.{Drawn, drawn_exactly, drawn_with_zero, drawn_share}
-use Rattle.algebra.proofs.Laws.Soundness.{Passing, one_column, passing_count}
+use Rattle.algebra.proofs.Laws.Soundness.{Passing}
+use Rattle.algebra.proofs.Laws.Soundness.OneColumn.{one_column}
+use Rattle.algebra.proofs.Laws.Soundness.PassingCount.{passing_count}
 use Rattle.ticket.specs.declared.setting.Setting.{Setting}
 use Rattle.ticket.specs.Rules.{Passes, FalseIn}
 use Rattle.challenge.specs.Rules.{challenge_at, WellFormed, Accepted, DifferIn}
 use Rattle.challenge.specs.Laws.Lists.{ZeroVector}
 use Rattle.challenge.proofs.Laws.Lists.{well_formed_is}
-use Rattle.soundness.proofs.Laws.Demands.{accepted_is, difference, balanced_is, false_wrong}
+use Rattle.soundness.proofs.Laws.Demands.{accepted_is}
+use Rattle.soundness.proofs.Laws.Demands.FalseWrong.{difference, balanced_is, false_wrong}
+
+pub mod DrawnAcceptedShare
+pub mod BelowShare
 
 pub record Allowed (set : List ℕ) : Type 0 where
   pub different : Different 0 set
@@ -89,8 +97,6 @@ accepted_pass set G t passes x drawn e =
     let h = (accepted_is G t passes x).0 e in
     record { drawn = well_formed_of_set set G x drawn h.0; orthogonal = λ τ l i m. (balanced_is G t x τ i).0 (h.1 τ i l m) }
 
--- the statements over the set
-
 pub one_drawn_accepted : (set : List ℕ) → Allowed set → (G : Setting) (t : List ℕ) → Passes G t → (j : ℕ) → FalseIn G t j
     → (x y : List ℕ) → DrawnFrom set x → DrawnFrom set y → DifferIn G j x y → Accepted G t x → Accepted G t y → ⊥
 one_drawn_accepted set allowed G t passes j column x y dx dy differ ax ay =
@@ -109,15 +115,6 @@ module _ (set : List ℕ) (allowed : Allowed set) (G : Setting) (t : List ℕ) (
       passing_count modulus_prime (contained_below set modulus allowed.below) (false_wrong G t passes j column)
       (contained_exactly set allowed.different).most G.vectors (contains set 0) (λ e. e) xs
       (λ k l. accepted_pass set G t passes (get_or xs k []) (all k l).0 (all k l).1) different
-
-  pub drawn_accepted_share : length xs * length set ^ G.vectors ≤ list_count set G.columns G.vectors
-  drawn_accepted_share =
-      let some : j < G.columns = column.0 in
-      omega (
-        arith,
-        mul-le-mul_right (length set ^ G.vectors) drawn_accepted_few,
-        drawn_share (length set) G.columns G.vectors (contains set 0) (omega arith),
-      )
 
 of_set_exactly : (set : List ℕ) → Allowed set → (G : Setting) → Exactly (OfSet set G) (list_count set G.columns G.vectors)
 of_set_exactly set allowed G = drawn_exactly (contained_exactly set allowed.different) G.vectors (contains set 0) (λ e. e)
@@ -143,8 +140,6 @@ pub drawn_well_formed_reached : (set : List ℕ) → Allowed set → (G : Settin
     × ((k : ℕ) → k < length xs → DrawnFrom set (get_or xs k []) × WellFormed G (get_or xs k []))
 drawn_well_formed_reached set allowed G some = exactly_members (drawn_exactly_with set allowed G (λ e. some)) []
 
--- the case of all numbers below c
-
 abbrev pub Below : ℕ → List ℕ → Type 0
 Below c x = (k : ℕ) → k < length x → get_or x k 0 < c
 
@@ -160,31 +155,3 @@ range_allowed c small =
 
 pub range_drawn : (c : ℕ) (x : List ℕ) → DrawnFrom (range c) x ↔ Below c x
 range_drawn c x = (λ d k l. (range_contains c (get_or x k 0)).0 (d k l), λ h k l. (range_contains c (get_or x k 0)).1 (h k l))
-
-module _ (c : ℕ) (some : 0 < c) (small : c ≤ modulus) where
-  range_count : (n s : ℕ) → list_count (range c) n s ≡ (c ^ n - 1) ^ s
-  range_count n s = count_with_zero (range c) n s ((range_contains c 0).1 some) ∙ ap (λ b. (b ^ n - 1) ^ s) (range_length c)
-
-  pub below_exactly : (G : Setting) → Exactly (λ x. Below c x × WellFormed G x) ((c ^ G.columns - 1) ^ G.vectors)
-  below_exactly G =
-      rw (← range_count G.columns G.vectors)
-      (exactly_through
-      (drawn_exactly_with (range c) (range_allowed c small) G (λ e. absurd (false≢true (sym e ∙ (range_contains c 0).1 some))))
-      (λ x. x) (λ x. x)
-      (λ x w. ((range_drawn c x).1 w.0, w.1))
-      (λ x y v w e. e)
-      (λ x w. (((range_drawn c x).0 w.0, w.1), refl)))
-
-  module _ (G : Setting) (t : List ℕ) (passes : Passes G t) (j : ℕ) (column : FalseIn G t j) (xs : List (List ℕ)) (different : Different [] xs)
-      (all : (k : ℕ) → k < length xs → Below c (get_or xs k []) × Accepted G t (get_or xs k [])) where
-    pub below_few : length xs ≤ (c ^ (G.columns - 1) - 1) ^ G.vectors
-    below_few =
-        rw (range_count (G.columns - 1) G.vectors) at
-        (drawn_accepted_few (range c) (range_allowed c small) G t passes j column xs different
-        (λ k l. ((range_drawn c (get_or xs k [])).1 (all k l).0, (all k l).1)))
-
-    pub below_share : length xs * c ^ G.vectors ≤ (c ^ G.columns - 1) ^ G.vectors
-    below_share =
-        rw (range_count G.columns G.vectors, range_length c) at
-        (drawn_accepted_share (range c) (range_allowed c small) G t passes j column xs different
-        (λ k l. ((range_drawn c (get_or xs k [])).1 (all k l).0, (all k l).1)))

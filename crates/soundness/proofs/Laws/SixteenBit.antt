@@ -1,18 +1,21 @@
 -- The lists of a 16-bit generator: all of their numbers are below 2^16 (N1, N2, for b = 65,536).
 --
 --   sixteen_bit_few       at most (65,536^(n - 1) - 1)^s different ones are accepted with a false ticket
---   sixteen_bit_share     these, times 65,536^s, are at most (65,536^n - 1)^s
---   two_short_vectors     with two vectors these, times p, are at most so many, as they are with one vector of all residues
 --   sixteen_bit_at_most, sixteen_bit_reached   so many different ones are well formed at most, and some are so many
 use Rattle.std.specs.Prelude.{ℕ, ◌-◌, ◌*◌, ◌^◌, ◌≤◌, ◌<◌, ◌≡◌, List, [], length, get_or}
 use Rattle.std.proofs.Common.{mul-le-mul_left, arith}
 use Rattle.residue.specs.Rules.{modulus}
 use Rattle.residue.proofs.Laws.Modulus.{modulus_above, modulus_below}
-use Rattle.residue.proofs.Laws.Counting.{Different, at_most_members, exactly_members}
+use Rattle.residue.proofs.Laws.Counting.{Different}
+use Rattle.residue.proofs.Laws.Counting.ExactlyButOne.{at_most_members, exactly_members}
 use Rattle.ticket.specs.declared.setting.Setting.{Setting}
 use Rattle.ticket.specs.Rules.{Passes, FalseIn}
 use Rattle.challenge.specs.Rules.{WellFormed, Accepted}
-use Rattle.soundness.proofs.Laws.DrawnLists.{Below, below_few, below_share, below_exactly}
+use Rattle.soundness.proofs.Laws.DrawnLists.{Below}
+use Rattle.soundness.proofs.Laws.DrawnLists.BelowShare.{below_few, below_share, below_exactly}
+
+pub mod SixteenBitShare
+pub mod TwoShortVectors
 
 below_p : 65_536 ≤ modulus
 below_p = omega (arith, modulus_above)
@@ -21,14 +24,6 @@ module _ (G : Setting) (t : List ℕ) (passes : Passes G t) (j : ℕ) (column : 
     (all : (k : ℕ) → k < length xs → Below 65_536 (get_or xs k []) × Accepted G t (get_or xs k [])) where
   pub sixteen_bit_few : length xs ≤ (65_536 ^ (G.columns - 1) - 1) ^ G.vectors
   sixteen_bit_few = below_few 65_536 (omega arith) below_p G t passes j column xs different all
-
-  pub sixteen_bit_share : length xs * 65_536 ^ G.vectors ≤ (65_536 ^ G.columns - 1) ^ G.vectors
-  sixteen_bit_share = below_share 65_536 (omega arith) below_p G t passes j column xs different all
-
-  pub two_short_vectors : G.vectors ≡ 2 → length xs * modulus ≤ (65_536 ^ G.columns - 1) ^ G.vectors
-  two_short_vectors two =
-      let enough : modulus ≤ 65_536 ^ G.vectors = rw two (omega (arith, modulus_below)) in
-      omega (arith, sixteen_bit_share, mul-le-mul_left (length xs) enough)
 
 pub sixteen_bit_at_most : (G : Setting) (xs : List (List ℕ)) → Different [] xs
     → ((k : ℕ) → k < length xs → Below 65_536 (get_or xs k []) × WellFormed G (get_or xs k []))

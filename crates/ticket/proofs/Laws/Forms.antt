@@ -15,7 +15,7 @@ use Rattle.std.proofs.Common.{arith, sym, ◌∙◌, lit<}
 use borrow.Author.Tests.{eq-eqb, eqb-true, le-ltb}
 use Rattle.residue.specs.Rules.{modulus}
 use Rattle.algebra.specs.Rules.{word}
-use Rattle.algebra.proofs.Laws.Bytes.{word_eqb}
+use Rattle.algebra.proofs.Laws.Bytes.WordEqb.{word_eqb}
 use Rattle.algebra.proofs.Laws.Fills.{part_of, part_long}
 use Rattle.algebra.proofs.Laws.Positions.{Position, row_of, column_of}
 use Rattle.ticket.specs.Rules.{unless, first_failed, record_bytes, byte_at, formed, value_at, half_range, refusal, first_refusal}

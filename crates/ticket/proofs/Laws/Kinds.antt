@@ -3,7 +3,6 @@
 --
 --   plain_none, bias_some      a plain setting has no bias, and the other has one
 --   PlainParts P, plain_parts  the parts without a bias: the third has no records, and the others start where they do without it
---   plain_outside              no record is in the part of the bias
 --   plain_length, bias_length  how many bytes a ticket has
 --   plain_tests, bias_tests    the tests of the setting, in order, with the fit
 --   largest_bias_unfit         a bound of 2^30 passes test 17, and never fits
@@ -22,9 +21,12 @@ use Rattle.ticket.specs.declared.published.PlainSetting.{PlainSetting}
 use Rattle.ticket.specs.declared.setting.Setting.{Setting}
 use Rattle.ticket.specs.Rules.{test, first_failed, plain, with_bias, has_bias, bias_bound, bias_columns, bias_within, rounding_within, most_bias_bound, reach, half_range, sizes_within, numbers_within, fits_width, fits, limit_tests, setting_tests, setting_number, parts, part_size, part, start, records, holder, ticket_length, of_a, of_b, of_bias, of_quotients, of_remainders, value_in, entry_a, entry_b, exact_sum, biased_sum, due}
 use Rattle.ticket.proofs.Laws.Differences.{bias_entry, no_bias_entry}
-use Rattle.ticket.proofs.Laws.Layout.{parts_are, held, length_is}
+use Rattle.ticket.proofs.Laws.Layout.{parts_are, held}
+use Rattle.ticket.proofs.Laws.Layout.StartOfB.{length_is}
 use Rattle.ticket.specs.Laws.Limits.{Numbers}
 use Rattle.ticket.proofs.Laws.Limits.{with_bias_lem, without_bias, range_double}
+
+pub mod PlainOutside
 
 pub plain_none : (P : PlainSetting) → has_bias (plain P) ≡ false
 unfolding has_bias
@@ -67,13 +69,6 @@ module _ (P : PlainSetting) where
         from_remainders = omega (arith, are.start_remainders);
         all = omega (arith, are.all);
       }
-
-  pub plain_outside : (k : ℕ) → k < records (plain P) → holder (parts (plain P)) k ≢ of_bias
-  plain_outside k l e =
-      let at = held G l in
-      let below : k < start G of_bias + part_size (part G of_bias) = rw e at at.below in
-      let from : start G of_bias ≤ k = rw e at at.from in
-      omega (arith, plain_parts.without)
 
   pub plain_length : ticket_length (plain P) ≡ 8 * (P.rows * P.inner + P.inner * P.columns + 2 * (P.rows * P.columns))
   plain_length = omega (arith, length_is G, ap (λ n. P.rows * n) none.1)

@@ -5,10 +5,6 @@
 --   holder_at, Held G k w, held   the part that holds a record
 --   PartsAre G, parts_are the sizes of the parts by name, and where each starts
 --   size_claims           the size of a part of claims
---   size_past, start_past past the last part there are no records, and all come before
---   length_is             how many bytes a ticket has
---   longest_ticket, length_most   the most bytes that a ticket without a bias has within the limits, and that every ticket has
---   start_of_b            the part that holds B starts at byte 8 · rows · inner
 --   bytes_cut             they are cut from the ticket, each end as far as the ticket goes
 --   part_bytes_long       how many they are, of a ticket that is long enough
 --   form_of_part, value_of_part   record i of a part is record start + i of the ticket
@@ -22,6 +18,7 @@
 --   range_a, range_b, range_bias, range_quotients, range_remainders   which values are in range
 --   each_part             what holds of each of the five parts holds of every part
 --   every_part            what holds of each row and column of each of them holds of those of every part
+-- any list of parts
 use Rattle.std.specs.Prelude.{◌≡◌, ℕ, zero, suc, ◌+◌, ◌-◌, ◌*◌, ◌/◌, ◌%◌, ◌^◌, ◌<◌, ◌≤◌, min, List, [], ◌∷◌, length, take, drop, nat_le, nat_lt, slice_index, slice_index_or, unsigned_abs}
 use Rattle.std.proofs.Math.Nat.{add-sub_cancel_left, min-eq_left, min-eq_right}
 use Rattle.std.proofs.Common.{mod-lt, div-add-mod', div-lt_iff_lt-mul, add-one, sym, ◌∙◌, lt-ltb, le-ltb, lit<, drop_of_length-le, take_all}
@@ -38,7 +35,8 @@ use Rattle.ticket.specs.Rules.{half_range, is_entry, shifted_quotient, Test, tes
 use Rattle.ticket.specs.Laws.Limits.{Counts}
 use Rattle.ticket.specs.Laws.Layout.{longest_ticket, part_bytes, PartIs}
 
--- any list of parts
+pub mod StartOfB
+pub mod LengthMost
 
 abbrev nth : List Part → ℕ → Part
 nth l w = slice_index_or l w no_part
@@ -75,8 +73,6 @@ held_in (P ∷ rest) k m =
           let h = held_in rest (k - part_size P) (omega arith) in
           rw (le-ltb k (part_size P) a) (omega arith, omega arith, omega arith)
     ]
-
--- the ticket's
 
 module _ (G : Setting) where
   pub start_none : start G 0 ≡ 0
@@ -143,27 +139,6 @@ module _ (G : Setting) {w : ℕ} where
   unfolding parts part
   size_claims low high = elim (ℕ_discrete w 3) [ yes three ↦ rw three | no other ↦ let four : w ≡ 4 = omega arith in rw four ]
 
-  pub size_past : 5 ≤ w → part_size (part G w) ≡ 0
-  unfolding part
-  size_past past = ap part_size (get_or-eq_default (parts G) no_part (omega (arith, (parts_are G).five)))
-
-  pub start_past : 5 ≤ w → start G w ≡ records G
-  unfolding start records
-  start_past past = ap count (take_all w (parts G) (omega (arith, (parts_are G).five)))
-
-pub length_is : (G : Setting)
-    → ticket_length G ≡ 8 * (G.rows * G.inner + G.inner * G.columns + G.rows * bias_columns G + 2 * (G.rows * G.columns))
-unfolding ticket_length
-length_is G = ap (λ n. 8 * n) (parts_are G).all
-
-pub start_of_b : (G : Setting) → record_bytes * start G of_b ≡ 8 * (G.rows * G.inner)
-start_of_b G = ap (λ n. 8 * n) (parts_are G).start_b
-
-pub length_most : {G : Setting} → Counts G → ticket_length G ≤ longest_ticket + record_bytes * (G.rows * bias_columns G)
-length_most {G} counts = omega (arith, length_is G)
-
--- the bytes of a part
-
 -- a part of a list, from a place to another, as far as the list goes
 cut_within : (t : List ℕ) (a n : ℕ) → let L = length t in take (min (a + n) L - min a L) (drop (min a L) t) ≡ take n (drop a t)
 cut_within t a n =
@@ -208,8 +183,6 @@ module _ (G : Setting) (t : List ℕ) (w : ℕ) where
     pub value_of_part : value_at (part_bytes G t w) i ≡ value_at t (start G w + i)
     unfolding value_at
     value_of_part = rw (byte_of_part 4 (lit< tt), byte_of_part 5 (lit< tt), byte_of_part 6 (lit< tt), byte_of_part 7 (lit< tt))
-
--- records by part, row and column
 
 pub record Located (G : Setting) (k w row column : ℕ) : Type 0 where
   pub in_part : holder (parts G) k ≡ w

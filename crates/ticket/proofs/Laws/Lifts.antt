@@ -8,7 +8,8 @@ use Rattle.std.proofs.Common.{arith, sym, ap, ◌∙◌}
 use Rattle.residue.specs.Rules.{modulus, least_residue}
 use Rattle.residue.proofs.Laws.Integers.{positive, negative, equal_of_parts, parts_sum, parts_difference, parts_within}
 use Rattle.residue.proofs.Laws.Modulus.{modulus_below}
-use Rattle.residue.proofs.Laws.Residues.{residue_of_residue, residue_sum, residue_close}
+use Rattle.residue.proofs.Laws.Residues.{residue_of_residue, residue_sum}
+use Rattle.residue.proofs.Laws.Residues.ResidueClose.{residue_close}
 use Rattle.ticket.specs.declared.setting.Setting.{Setting}
 use Rattle.ticket.specs.Rules.{reach}
 use Rattle.ticket.specs.Laws.Limits.{Numbers, Fitted, lift}

@@ -18,16 +18,19 @@ use Rattle.std.proofs.Math.Path.{sym, ap}
 use Rattle.residue.specs.Rules.{modulus, signed_entry}
 use Rattle.residue.proofs.Laws.Modulo.{mod_once}
 use Rattle.residue.proofs.Laws.Residues.{entry_low, entry_high}
-use Rattle.residue.proofs.Laws.Modulus.{modulus_positive, modulus_above}
+use Rattle.residue.proofs.Laws.Modulus.PartnerModuli.{modulus_positive}
+use Rattle.residue.proofs.Laws.Modulus.{modulus_above}
 use Rattle.algebra.proofs.Laws.Fills.{part_long}
 use Rattle.ticket.specs.declared.setting.Setting.{Setting}
 use Rattle.ticket.specs.declared.Answer.{Answer}
 use Rattle.ticket.specs.declared.records.Form.{Form}
 use Rattle.ticket.specs.Rules.{test, first_failed, parts, part, of_a, of_b, of_bias, of_quotients, of_remainders, bias_bound, bias_columns, part_size, start, records, record_bytes, is_entry, is_quotient, shifted_quotient, ticket_length, formed, value_at, part_tests, record_tests, record_number, refusal, first_refusal}
 use Rattle.ticket.specs.Laws.Limits.{Numbers, Within}
-use Rattle.ticket.proofs.Laws.Limits.{bias_small, half_small, half_double}
+use Rattle.ticket.proofs.Laws.Limits.BiasSmall.{bias_small}
+use Rattle.ticket.proofs.Laws.Limits.{half_small, half_double}
 use Rattle.ticket.specs.Laws.Layout.{part_bytes}
-use Rattle.ticket.proofs.Laws.Layout.{parts_are, start_none, start_next, ends_within, start_past, holder_at, form_of_part, value_of_part}
+use Rattle.ticket.proofs.Laws.Layout.{parts_are, start_none, start_next, ends_within, holder_at, form_of_part, value_of_part}
+use Rattle.ticket.proofs.Laws.Layout.StartOfB.{start_past}
 use Rattle.ticket.proofs.Laws.Tests.{same_test}
 use Rattle.ticket.proofs.Laws.Scans.{refusal_none, refusal_cong, refusal_split, after_passed, after_refused}
 use Rattle.ticket.proofs.Laws.Answers.{scan_zero}

@@ -12,7 +12,8 @@ use Rattle.ticket.specs.declared.setting.Setting.{Setting}
 use Rattle.ticket.specs.Rules.{Passes, records, Part, part, formed, value_at, value_in}
 use Rattle.ticket.specs.Laws.Tests.{AllHold}
 use Rattle.ticket.proofs.Laws.Tests.{first_holds, rest_hold}
-use Rattle.ticket.proofs.Laws.Limits.{counts, limits_of}
+use Rattle.ticket.proofs.Laws.Limits.ClampedSmall.{counts}
+use Rattle.ticket.proofs.Laws.Limits.{limits_of}
 use Rattle.ticket.proofs.Laws.Layout.{Located, record_at, located_tests, tests_located}
 use Rattle.ticket.proofs.Laws.Refusals.{passed_reading, refused_reading, passed_or_refused, refused_number}
 use Rattle.ticket.specs.Laws.Passes.{Passed}

@@ -10,10 +10,7 @@
 --   wrong_length           reading of a ticket of another length
 --   passed_or_refused      one of the two is so
 --   refused_number         the number of a refusal
---   reading_zero_exactly   reading answers 0 exactly when all tests pass
---   refusal_exactly        reading refuses with a number and a place exactly under their condition
 --   ReadingRow G a         the answer a is a row of the published table for these tests, within its bounds
---   refused_in_table       every refusal is one
 use Rattle.std.specs.Prelude.{◌≡◌, ℕ, ◌+◌, ◌<◌, ◌≤◌, ◌⊎◌, ◌↔◌, List, length, ◌≢◌}
 use Rattle.std.proofs.Math.Decide.{ℕ_discrete}
 use Rattle.std.proofs.Common.{arith, sym, ◌∙◌, inl, inr, ⊎_elim, eq-eqb, ne_eqb}
@@ -22,10 +19,15 @@ use Rattle.ticket.specs.declared.setting.Setting.{Setting}
 use Rattle.ticket.specs.declared.Answer.{Answer}
 use Rattle.ticket.specs.Rules.{refusal, setting_tests, setting_number, parts, part, part_size, start, records, ticket_length, record_tests, record_number, first_refusal, after, records_reading, reading}
 use Rattle.ticket.specs.Laws.Tests.{AllHold}
-use Rattle.ticket.proofs.Laws.Tests.{Failed, Numbered, here, later, hold_or_failed, holding_number, failed_number, ReadingNumber, failed_numbered, tests_hold}
-use Rattle.ticket.proofs.Laws.Limits.{setting_numbered, SettingRow, setting_in_table}
+use Rattle.ticket.proofs.Laws.Tests.{Failed, Numbered, here, later, hold_or_failed, holding_number, failed_number, ReadingNumber, failed_numbered}
+use Rattle.ticket.proofs.Laws.Tests.TestsHold.{tests_hold}
+use Rattle.ticket.proofs.Laws.Limits.{setting_numbered}
+use Rattle.ticket.proofs.Laws.Limits.BiasSmall.{SettingRow}
+use Rattle.ticket.proofs.Laws.Limits.SettingInTable.{setting_in_table}
 use Rattle.ticket.proofs.Laws.Layout.{each_part, located_at, located_tests, tests_located}
 use Rattle.ticket.proofs.Laws.Scans.{refusal_none, refusal_is, zeros_or_first, after_passed, after_refused}
+
+pub mod RefusedInTable
 
 pub record PassedTo (G : Setting) (t : List ℕ) (k : ℕ) : Type 0 where
   pub setting : AllHold (setting_tests G)
@@ -108,26 +110,6 @@ module _ (G : Setting) (t : List ℕ) where
       (λ f. inr (f.0, 0, by_setting f.1))
       (hold_or_failed (setting_tests G))
 
-  pub reading_zero_exactly : (reading G t ≡ refusal 0 0) ↔ PassedTo G t (records G)
-  reading_zero_exactly = (
-    λ e. ⊎_elim (λ p. p)
-        (λ x. absurd (omega (arith, refused_number x.2, ap (λ a. a.number) (sym (refused_reading x.2) ∙ e))))
-        passed_or_refused,
-    passed_reading,
-  )
-
-  pub refusal_exactly : (c k : ℕ) → (c ≢ 0) → (reading G t ≡ refusal c k) ↔ Refused G t c k
-  refusal_exactly c k d = (
-    λ e. ⊎_elim
-        (λ p. absurd (d (ap (λ a. a.number) (sym e ∙ passed_reading p))))
-        (λ x. let same = sym (refused_reading x.2) ∙ e in
-        let number : x.0 ≡ c = ap (λ a. a.number) same in
-        let place : x.1 ≡ k = ap (λ a. a.place) same in
-        rw number at (rw place at x.2))
-        passed_or_refused,
-    refused_reading,
-  )
-
 pub data ReadingRow (G : Setting) : Answer → Type 0 where
   by_setting_row : {c : ℕ} → SettingRow G c → ReadingRow G (refusal c 0)
   length_row : ReadingRow G (refusal 4 0)
@@ -141,10 +123,3 @@ record_in_table G t k w row column l from below (here e) = record_row 5 k (omega
 record_in_table G t k w row column l from below (later a (here e)) = record_row 6 k (omega arith) (omega arith) l
 record_in_table G t k w row column l from below (later a (later b (here e))) = range_row w k from below
 record_in_table G t k w row column l from below {c = c} (later a (later b (later _ x16))) = elim x16 [ ]
-
-pub refused_in_table : {G : Setting} {t : List ℕ} {c k : ℕ} → Refused G t c k → ReadingRow G (refusal c k)
-refused_in_table {G} (by_setting f) = by_setting_row (setting_in_table G f)
-refused_in_table (by_length s d) = length_row
-refused_in_table {G} {t} (by_record {k = k} p l f) =
-    let at = located_at G k l in
-    record_in_table G t k at.0 _ _ l at.1.from at.1.below (rw (tests_located t at.2) at f)

@@ -2,7 +2,6 @@
 -- without.
 --
 --   unrounded_tests      with 0, the tests of the setting are 1, 2, 17 and 3, with the fit that has no o
---   unrounded_claim      what a claim puts for its sum is scale times quotient plus remainder
 --   unrounded_dividend   what is divided for a sum is the sum
 --   rounded G o          the setting G with another rounding number
 --   Unread G o, rounding_unread   the parts and the length, the tests from 4 on, what the records stand for, the bias, what a claim is
@@ -18,6 +17,8 @@ use Rattle.ticket.specs.Rules.{test, first_failed, reach, half_range, sizes_with
 use Rattle.ticket.proofs.Laws.First.{true_or_false}
 use Rattle.ticket.specs.Laws.Limits.{renumbered}
 use Rattle.ticket.proofs.Laws.Limits.{numbers_of}
+
+pub mod UnroundedClaim
 
 module _ (G : Setting) (none : G.rounding ≡ 0) where
   pub unrounded_tests : setting_number G ≡ first_failed (
@@ -35,12 +36,6 @@ module _ (G : Setting) (none : G.rounding ≡ 0) where
 
   pub unrounded_dividend : (S : ℤ) → dividend G S ≡ S
   unrounded_dividend S = ap (λ o. S +ℤ pos o) none ∙ +ℤ_idr S
-
-  pub unrounded_claim : (t : List ℕ) (i j : ℕ) → claim G t i j ≡ pos G.scale *ℤ quotient G t i j +ℤ remainder G t i j
-  unfolding claim
-  unrounded_claim t i j =
-      let made = pos G.scale *ℤ quotient G t i j +ℤ remainder G t i j in
-      ap (λ z. z -ℤ pos G.rounding) (sym (unrounded_dividend made)) ∙ +ℤ-neg_ℤ_cancel made (pos G.rounding)
 
 abbrev pub rounded : Setting → ℕ → Setting
 rounded G o = renumbered G G.vectors G.width o

@@ -8,7 +8,6 @@
 --   reading_not_later  it is none of 10 to 16
 --   Numbered l         the numbers of all tests are such
 --   failed_numbered    so is then that of the first that fails
---   tests_hold         all hold, where the number is 0 and that of no test is
 --   same_test          two comparisons that say the same are equal
 --   first_holds, rest_hold   the first of several tests that all hold does, and so do the others
 --   hold_then, failed_before, failed_last   the tests of l and then T: all hold, or one of l fails first, or T alone fails
@@ -20,6 +19,8 @@ use Rattle.std.proofs.lemmas.Bool.{lt-leb}
 use Rattle.ticket.specs.Rules.{Test, first_failed}
 use Rattle.ticket.proofs.Laws.First.{true_or_false}
 use Rattle.ticket.specs.Laws.Tests.{AllHold, none, one}
+
+pub mod TestsHold
 
 pub data Failed : List Test → ℕ → Type 0 where
   here : {T : Test} {rest : List Test} → T.holds ≡ false → Failed (T ∷ rest) T.number
@@ -84,10 +85,6 @@ unfolding Numbered
 failed_numbered (T ∷ rest) numbered (here e) = numbered.0
 failed_numbered (T ∷ rest) numbered (later h f) = failed_numbered rest numbered.1 f
 failed_numbered {c = c} [] numbered x'' = elim x'' [ ]
-
-pub tests_hold : (l : List Test) → Numbered l → first_failed l ≡ 0 → AllHold l
-tests_hold l numbered e =
-    ⊎_elim (λ h. h) (λ f. absurd (omega (arith, failed_numbered l numbered f.1, failed_number f.1))) (hold_or_failed l)
 
 pub same_test : (a b c d : ℕ) → (a ≤ b → c < d) → (c < d → a ≤ b) → nat_le a b ≡ nat_lt c d
 same_test a b c d to from =

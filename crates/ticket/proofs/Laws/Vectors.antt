@@ -11,7 +11,8 @@ use borrow.Author.Tests.{le-leb}
 use Rattle.ticket.specs.declared.setting.Setting.{Setting}
 use Rattle.ticket.specs.Rules.{refusal, most_rows, most_inner, most_columns, most_vectors, sizes_within, scale_and_bound_within, numbers_within, bias_within, rounding_within, fits_width, limit_tests, setting_tests, setting_number, has_bias, bias_bound, bias_columns, parts, part, count, start, records, ticket_length, holder, part_tests, record_tests, records_reading, reading, Passes, value_in, entry_a, entry_b, entry_bias, quotient, remainder, claim}
 use Rattle.ticket.proofs.Laws.Answers.{after_zero}
-use Rattle.ticket.proofs.Laws.Limits.{setting_holds, sizes_of}
+use Rattle.ticket.proofs.Laws.Limits.ClampedSmall.{setting_holds}
+use Rattle.ticket.proofs.Laws.Limits.{sizes_of}
 use Rattle.ticket.specs.Laws.Tests.{AllHold, one}
 use Rattle.ticket.proofs.Laws.Tests.{holding_number}
 use Rattle.ticket.specs.Laws.Vectors.{vectored}

@@ -3,7 +3,6 @@
 --
 --   Unread G v, width_unread   the limits but for that of the width, the fit with a given width, the bytes of a ticket, the columns of the
 --                        bias and how many products the sums take do not read it
---   widened_number       with a width within its limits, the number is by the limits of all else, and the fit
 --   largest_width_unfit  no setting of a scale within its limits fits with the largest width
 use Rattle.std.specs.Prelude.{◌≡◌, ℕ, ◌*◌, ◌^◌, ◌≤◌, false, [], ◌∷◌, ◌++◌, refl}
 use Rattle.std.proofs.Common.{arith, le-leb, le-ltb}
@@ -13,6 +12,8 @@ use Rattle.residue.proofs.Laws.Modulus.{modulus_below}
 use Rattle.ticket.specs.declared.setting.Setting.{Setting}
 use Rattle.ticket.specs.Rules.{test, first_failed, most_width, sizes_within, scale_and_bound_within, numbers_within, bias_within, rounding_within, fits_width, limit_tests, setting_tests, setting_number, sum_products, has_bias, bias_bound, bias_columns, parts, count, records, ticket_length}
 use Rattle.ticket.specs.Laws.Widths.{widened}
+
+pub mod WidenedNumber
 
 pub record Unread (G : Setting) (v : ℕ) : Type 0 where
   pub limits : limit_tests (widened G v) ≡ limit_tests G
@@ -25,13 +26,6 @@ pub record Unread (G : Setting) (v : ℕ) : Type 0 where
 pub width_unread : (G : Setting) (v : ℕ) → Unread G v
 unfolding sizes_within scale_and_bound_within bias_within rounding_within fits_width limit_tests has_bias bias_bound bias_columns parts count records ticket_length
 width_unread G v = record { limits = refl; numbers = refl; fit = refl; bytes = refl; bias_columns_lem = refl; products = refl }
-
-pub widened_number : (G : Setting) (v : ℕ) → 1 ≤ v → v ≤ most_width
-    → setting_number (widened G v) ≡ first_failed (limit_tests G (scale_and_bound_within G) ++ (test (fits_width G v) 3 ∷ []))
-unfolding setting_tests numbers_within
-widened_number G v low high =
-    let same = width_unread G v in
-    rw (le-leb 1 v low, le-leb v most_width high, and-true, same.limits, same.numbers, same.fit)
 
 pub largest_width_unfit : (G : Setting) → 2 ≤ G.scale → fits_width G most_width ≡ false
 unfolding fits_width

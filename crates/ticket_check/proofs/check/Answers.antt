@@ -1,4 +1,4 @@
-use Rattle.files.proofs.Laws.Starts.{read_decides}
+use Rattle.files.proofs.Laws.Starts.ReadDecides.{read_decides}
 use Rattle.ticket_check.proofs.check.Goals as goal
 
 pub returns : goal.returns

@@ -10,7 +10,7 @@
 --   setting_refused, operands_refused, output_next   the writer's answer, as the tests come out in order
 --   writing_of         where the condition of the answer a holds, a is the answer
 --   output_refused     a refusal leaves the output as it was
---   output_written     else it holds the ticket, and past it what it held
+-- all have their lengths
 use Rattle.std.specs.Prelude.{◌≡◌, ℕ, ◌+◌, ◌-◌, ◌<◌, ◌≤◌, Bool, true, false, List, ◌++◌, length, drop, ℤ, pos, ◌==◌, ◌≢◌, nat_eq, nat_le, slice_index_or, unsigned_abs, refl}
 use Rattle.std.proofs.Math.Decide.{dec_le}
 use Rattle.std.proofs.Common.{arith, ◌∙◌, get_or-append-add}
@@ -29,7 +29,8 @@ use Rattle.writer.specs.Rules.{beyond_number, operands_reading, written, writing
 use Rattle.writer.proofs.Laws.Operands.{number_within, within_of, beyond_none, beyond_at}
 use Rattle.writer.specs.Laws.Answers.{Writable, lengths_reading}
 
--- all have their lengths
+pub mod OutputWritten
+
 pub record Lengths (G : Setting) (A B C : List ℤ) : Type 0 where
   pub of_a_lem : length A ≡ part_size (part G of_a)
   pub of_b_lem : length B ≡ part_size (part G of_b)
@@ -200,7 +201,3 @@ module _ (G : Setting) (A B C : List ℤ) where
     pub output_refused : ((writing G A B C (length o)).number ≢ 0) → output_after G A B C o ≡ o
     unfolding output_after
     output_refused d = rw (ne_eqb (writing G A B C (length o)).number 0 d)
-
-    pub output_written : (writing G A B C (length o)).number ≡ 0 → output_after G A B C o ≡ ticket_of G A B C ++ drop (ticket_length G) o
-    unfolding output_after
-    output_written e = rw (eq-eqb (writing G A B C (length o)).number 0 e)

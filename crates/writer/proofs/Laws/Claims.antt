@@ -15,10 +15,12 @@ use borrow.Author.Tests.{lt-ltb, le-ltb}
 use Rattle.std.proofs.Math.IntN.{+ℤ_comm, -ℤ-+ℤ_cancel}
 use Rattle.residue.specs.Rules.{modulus, least_residue}
 use Rattle.residue.proofs.Laws.Integers.{positive, negative, equal_of_parts, parts_sum, parts_difference, parts_product}
-use Rattle.residue.proofs.Laws.Modulus.{modulus_above, modulus_positive}
+use Rattle.residue.proofs.Laws.Modulus.{modulus_above}
+use Rattle.residue.proofs.Laws.Modulus.PartnerModuli.{modulus_positive}
 use Rattle.residue.proofs.Laws.Residues.{residue_of_residue, residue_shift}
 use Rattle.algebra.specs.Rules.{floor_division}
-use Rattle.algebra.proofs.Laws.FloorDivision.{floor_left, floor_unique}
+use Rattle.algebra.proofs.Laws.FloorDivision.{floor_left}
+use Rattle.algebra.proofs.Laws.FloorDivision.FloorBetween.{floor_unique}
 use Rattle.ticket.specs.declared.setting.Setting.{Setting}
 use Rattle.ticket.specs.Rules.{reach, half_range, dividend}
 use Rattle.ticket.specs.Laws.Limits.{Numbers, Fitted, Within, lift, clamped}

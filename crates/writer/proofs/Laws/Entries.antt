@@ -14,10 +14,11 @@ use Rattle.std.proofs.Math.ListN.{get_or-eq_default}
 use Rattle.residue.proofs.Laws.Modulus.{modulus_below}
 use Rattle.ticket.specs.declared.setting.Setting.{Setting}
 use Rattle.ticket.specs.Rules.{reach, half_range, bias_bound, bias_columns, has_bias}
-use Rattle.ticket.proofs.Laws.Differences.{size_sum_of}
+use Rattle.ticket.proofs.Laws.Differences.ClaimsTrue.{size_sum_of}
 use Rattle.ticket.proofs.Laws.Layout.{parts_are}
 use Rattle.ticket.specs.Laws.Limits.{Within, clamped}
-use Rattle.ticket.proofs.Laws.Limits.{limits_of, with_bias_lem, without_bias, bias_small, lift_made}
+use Rattle.ticket.proofs.Laws.Limits.{limits_of, with_bias_lem, without_bias, lift_made}
+use Rattle.ticket.proofs.Laws.Limits.BiasSmall.{bias_small}
 use Rattle.ticket.proofs.Laws.First.{true_or_false}
 use Rattle.writer.specs.Rules.{entry_of, sum_for}
 use Rattle.writer.specs.Laws.Answers.{Writable}

@@ -26,7 +26,8 @@ use Rattle.std.specs.Int.{w16, w32, w64}
 use Rattle.std.proofs.Math.Facts.{to_z_pos}
 use Rattle.residue.specs.Rules.{modulus, least_residue}
 use Rattle.residue.proofs.Laws.Integers.{equal_of_parts, parts_sum, parts_difference}
-use Rattle.residue.proofs.Laws.Modulus.{modulus_above, modulus_below, modulus_positive}
+use Rattle.residue.proofs.Laws.Modulus.{modulus_above, modulus_below}
+use Rattle.residue.proofs.Laws.Modulus.PartnerModuli.{modulus_positive}
 use Rattle.residue.proofs.Laws.Residues.{residue_below, residue_of_residue, residue_shift}
 use Rattle.residue.proofs.Laws.Signed.{widened, narrowed_is, narrowed_fits}
 use Rattle.algebra.proofs.Laws.Fills.{part_of, part_long}

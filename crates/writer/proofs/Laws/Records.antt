@@ -26,7 +26,8 @@ use Rattle.std.proofs.Math.Arith.{digits_div, digits_mod}
 use Rattle.std.proofs.Math.ListN.{get_or-append}
 use Rattle.std.proofs.lemmas.List.Edits.{sets, sets-eq}
 use Rattle.residue.specs.Rules.{modulus, least_residue}
-use Rattle.residue.proofs.Laws.Modulus.{modulus_positive, modulus_below}
+use Rattle.residue.proofs.Laws.Modulus.PartnerModuli.{modulus_positive}
+use Rattle.residue.proofs.Laws.Modulus.{modulus_below}
 use Rattle.residue.proofs.Laws.Residues.{residue_below}
 use Rattle.algebra.specs.Rules.{word}
 use Rattle.algebra.proofs.Laws.Bytes.{bytes_of_word, word_of_bytes}
@@ -34,7 +35,8 @@ use Rattle.ticket.specs.declared.setting.Setting.{Setting}
 use Rattle.ticket.specs.Rules.{record_bytes, byte_at, records, ticket_length, part, start, of_a, of_b, of_bias, bias_columns, of_quotients, of_remainders, formed, value_at, value_in}
 use Rattle.ticket.proofs.Laws.Forms.{FormedBytes, formed_exactly, value_is}
 use Rattle.ticket.specs.Laws.Layout.{PartIs}
-use Rattle.ticket.proofs.Laws.Layout.{parts_are, length_is, Located, record_at, value_in_lem}
+use Rattle.ticket.proofs.Laws.Layout.{parts_are, Located, record_at, value_in_lem}
+use Rattle.ticket.proofs.Laws.Layout.StartOfB.{length_is}
 use Rattle.writer.specs.Rules.{joined, record_of, integers_of, integer_in, ticket_record, ticket_of, entry_of, quotient_of, remainder_of}
 use Rattle.writer.specs.Laws.Writes.{RecordIs}
 use Rattle.writer.specs.Laws.Records.{words_of}

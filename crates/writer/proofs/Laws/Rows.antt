@@ -7,6 +7,7 @@
 --   RowRoom G A i a x q r      row i is inside A, and the records of its claims come early
 --   claims_early               the claims come early in the ticket
 --   rows_begun, row_room, row_ready, rows_none, rows_next, rows_more   before the first row, before each, and after it
+-- an entry of the bias, in a list that has none where there is no bias
 use Rattle.std.specs.Prelude.{◌≡◌, ℕ, ◌+◌, ◌-◌, ◌*◌, ◌^◌, ◌<◌, ◌≤◌, true, List, length, get_or, take, drop, ℤ, pos, slice_index, slice_index_or}
 use Rattle.std.proofs.Common.{mul-le-mul_left, mul-le-mul_right, arith, sym, ◌∙◌, ⊎_elim}
 use Rattle.std.proofs.Math.Path.{ap}
@@ -21,9 +22,11 @@ use Rattle.exact.proofs.Laws.Matrices.{row_sums_exact}
 use Rattle.ticket.specs.declared.setting.Setting.{Setting}
 use Rattle.ticket.specs.Rules.{most_rows, most_inner, most_columns, start, of_quotients, of_remainders, bias_columns, has_bias}
 use Rattle.ticket.proofs.Laws.Differences.{biased_sum_is}
-use Rattle.ticket.proofs.Laws.Layout.{parts_are, length_is, part_quotients, part_remainders}
+use Rattle.ticket.proofs.Laws.Layout.{parts_are, part_quotients, part_remainders}
+use Rattle.ticket.proofs.Laws.Layout.StartOfB.{length_is}
 use Rattle.ticket.specs.Laws.Limits.{clamped}
-use Rattle.ticket.proofs.Laws.Limits.{with_bias_lem, without_bias, counts}
+use Rattle.ticket.proofs.Laws.Limits.{with_bias_lem, without_bias}
+use Rattle.ticket.proofs.Laws.Limits.ClampedSmall.{counts}
 use Rattle.ticket.proofs.Laws.First.{true_or_false}
 use Rattle.residue.proofs.Laws.Residues.{residue_sum}
 use Rattle.writer.specs.Rules.{entry_of, sum_for, quotient_of, remainder_of}
@@ -39,7 +42,8 @@ use Rattle.writer.specs.Laws.Writes.{Wrote, Among}
 use Rattle.writer.proofs.Laws.Writes.{wrote_none, wrote_as, wrote_both, both_on}
 use Rattle.writer.specs.Laws.Rows.{RowReady, RowOf, RowTo, RowWrote, Room, RowsReady, ClaimsWrote}
 
--- an entry of the bias, in a list that has none where there is no bias
+pub mod RowClaim
+
 bias_entry : {G : Setting} {A B C : List ℤ} → Writable G A B C → (row j : ℕ) → slice_index_or C (row * G.columns + j) (pos 0) ≡ entry_of (bias_columns G) C row j
 bias_entry {G} {C = C} w row j =
     ⊎_elim (λ e. ap (λ n. get_or C (row * n + j) (pos 0)) (sym (with_bias_lem G e).1))
@@ -58,30 +62,6 @@ row_sum {G} {A} {B} {C} {row} of j l =
 module _ {G : Setting} {C : List ℤ} {row from : ℕ} {sums : List ℕ} {quotients remainders : ℕ} where
   pub row_none : {before : List ℕ} → RowTo G C row from sums quotients remainders 0 before before
   row_none A B of = wrote_none (λ k. ⊎_elim (λ a. omega (arith, a.from, a.below)) (λ a. omega (arith, a.from, a.below)))
-
-  pub row_claim : {half lifting : ℕ} {before output between after : List ℕ} {column q r x y : ℕ}
-      → RowReady G half lifting C from sums quotients remainders before → row < 256 → column < length sums
-      → RowTo G C row from sums quotients remainders column before output → Claimed G (biased_word C (from + column) (slice_index sums column)) q r
-      → x ≡ word 3 0 row column → y ≡ word 4 0 row column → Wrote (λ k. words_of x q) (Among (quotients + column) 1) output between
-      → Wrote (λ k. words_of y r) (Among (remainders + column) 1) between after
-      → RowTo G C row from sums quotients remainders (column + 1) before after
-  unfolding quotient_of remainder_of
-  row_claim {column = column} ready small l so_far claimed x-is y-is first second A B of =
-      let m : column < G.columns = omega (arith, ready.long_sums) in
-      let within = limits of.writable in
-      let S = sum_for G A B C row column in
-      let size = size_sum_for of.writable row column of.within m in
-      let quotient = claimed.quotient_is ∙ quotient_true within.numbers within.fitted S size (row_sum of column m)
-      ∙ ap (least_residue modulus) (sym (integer_quotient G A B C row column)) in
-      let remainder = claimed.remainder_is ∙ remainder_true within.numbers within.fitted S size (row_sum of column m)
-      ∙ ap (least_residue modulus) (sym (integer_remainder G A B C row column)) in
-      let few : column < 256 = omega (arith, ready.few) in
-      both_on (so_far A B of)
-      (wrote_both
-      (wrote_as first (words_named G A B C (part_quotients G) of.within m of.quotients_at (omega arith) small few x-is quotient))
-      (wrote_as second (words_named G A B C (part_remainders G) of.within m of.remainders_at (omega arith) small few y-is remainder)))
-
--- all rows
 
 pub record RowsAt (G : Setting) (row from : ℕ) (line : List ℤ) (sums : List ℕ) (quotients remainders : ℕ) : Type 0 where
   pub within : row ≤ G.rows

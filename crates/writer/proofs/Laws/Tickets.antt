@@ -10,11 +10,13 @@ use Rattle.std.proofs.Common.{arith, sym, ap, ◌∙◌, inl, inr, ⊎_elim}
 use Rattle.ticket.specs.declared.setting.Setting.{Setting}
 use Rattle.ticket.specs.declared.Answer.{Answer}
 use Rattle.ticket.specs.Rules.{start, of_a, of_b, of_bias, bias_columns, of_quotients, of_remainders, records, ticket_length}
-use Rattle.ticket.proofs.Laws.Layout.{parts_are, length_is, part_a, part_b, part_bias}
-use Rattle.ticket.proofs.Laws.Limits.{bias_columns_most}
+use Rattle.ticket.proofs.Laws.Layout.{parts_are, part_a, part_b, part_bias}
+use Rattle.ticket.proofs.Laws.Layout.StartOfB.{length_is}
+use Rattle.ticket.proofs.Laws.Limits.ClampedSmall.{bias_columns_most}
 use Rattle.writer.specs.Rules.{ticket_of, written, writing, output_after}
 use Rattle.writer.specs.Laws.Answers.{Writable}
-use Rattle.writer.proofs.Laws.Answers.{ticket_written, writing_of, output_refused, output_written}
+use Rattle.writer.proofs.Laws.Answers.{ticket_written, writing_of, output_refused}
+use Rattle.writer.proofs.Laws.Answers.OutputWritten.{output_written}
 use Rattle.writer.proofs.Laws.Entries.{limits, long_a, long_b, long_c, small_a, small_b, small_c}
 use Rattle.writer.proofs.Laws.Operands.{small_more}
 use Rattle.writer.specs.Laws.Lines.{OperandOf, OperandReady, OperandWrote}

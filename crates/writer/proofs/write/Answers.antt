@@ -1,8 +1,9 @@
 use Rattle.std.proofs.Common.{◌≡◌, ◌<◌, ◌≤◌, length, sym, ap, ◌∙◌, arith}
 use Rattle.ticket.specs.Rules.{answer, setting_number, setting_tests, ticket_length, sum_products}
-use Rattle.ticket.proofs.Laws.Layout.{length_most}
+use Rattle.ticket.proofs.Laws.Layout.LengthMost.{length_most}
 use Rattle.ticket.specs.Laws.Limits.{clamped}
-use Rattle.ticket.proofs.Laws.Limits.{setting_holds, number_by_lem, limits_of, clamped_same, counts}
+use Rattle.ticket.proofs.Laws.Limits.ClampedSmall.{setting_holds, counts}
+use Rattle.ticket.proofs.Laws.Limits.{number_by_lem, limits_of, clamped_same}
 use Rattle.ticket.specs.Laws.Tests.{AllHold}
 use Rattle.writer.specs.Rules.{operands_reading, written}
 use Rattle.writer.specs.Laws.Answers.{Writable}

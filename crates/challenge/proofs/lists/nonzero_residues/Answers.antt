@@ -1,5 +1,5 @@
 use native.Mathlib.Omega.{arith}
-use Rattle.residue.proofs.Laws.Modulus.{modulus_positive}
+use Rattle.residue.proofs.Laws.Modulus.PartnerModuli.{modulus_positive}
 use Rattle.ticket.proofs.Laws.All.{all_none, all_next}
 use Rattle.challenge.proofs.lists.nonzero_residues.Goals as goal
 

@@ -3,7 +3,8 @@ use native.Mathlib.Omega.{arith}
 use borrow.Author.Rules.{rules}
 use mathlib.Core.Path.{refl, sym}
 use lib.Seq.{length-take-le}
-use Rattle.challenge.proofs.Laws.Single.{line_ready, line_numbers, words_kept, row_made_lem}
+use Rattle.challenge.proofs.Laws.Single.{line_ready, line_numbers, words_kept}
+use Rattle.challenge.proofs.Laws.Single.RowMadeLem.{row_made_lem}
 use Rattle.challenge.proofs.Laws.Vectors.{line_within, line_fits}
 use Rattle.challenge.proofs.single.row_in.Goals as goal
 

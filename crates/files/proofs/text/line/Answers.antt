@@ -1,4 +1,4 @@
-use Rattle.files.proofs.Laws.Lines.{put_line}
+use Rattle.files.proofs.Laws.Lines.PutLine.{put_line}
 use Rattle.files.proofs.text.line.Goals as goal
 
 pub returns : goal.returns

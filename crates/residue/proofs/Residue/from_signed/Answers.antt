@@ -2,8 +2,8 @@
 use Rattle.std.proofs.Common.{◌*◌, ◌∙◌, rules, w32, FitsSigned, lit≤}
 use Rattle.std.proofs.Math.Path.{refl}
 use Rattle.residue.specs.Rules.{modulus}
-use Rattle.residue.proofs.Laws.Modulus.{modulus_positive}
-use Rattle.residue.proofs.Laws.Signed.{lifted_residue}
+use Rattle.residue.proofs.Laws.Modulus.PartnerModuli.{modulus_positive}
+use Rattle.residue.proofs.Laws.Signed.LiftedResidue.{lifted_residue}
 use Rattle.residue.proofs.Residue.from_signed.Goals as goal
 
 pub returns : goal.returns

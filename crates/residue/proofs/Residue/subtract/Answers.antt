@@ -1,7 +1,7 @@
 -- The second operand is reduced, so that it is below the p that was added; p changes no least residue.
 use Rattle.std.proofs.Common.{◌∙◌}
 use Rattle.residue.specs.Rules.{modulus}
-use Rattle.residue.proofs.Laws.Modulus.{modulus_positive}
+use Rattle.residue.proofs.Laws.Modulus.PartnerModuli.{modulus_positive}
 use Rattle.residue.proofs.Laws.Residues.{residue_lifted}
 use Rattle.residue.proofs.Residue.subtract.Goals as goal
 

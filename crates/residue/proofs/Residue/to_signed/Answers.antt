@@ -5,7 +5,7 @@ use mathlib.Core.Path.{subst⁻¹}
 use mir.Facts.{to_z_pos}
 use Rattle.residue.specs.Rules.{modulus, least_residue}
 use Rattle.residue.proofs.Laws.Residues.{less_modulus, entry_low, entry_high}
-use Rattle.residue.proofs.Laws.Modulus.{modulus_positive}
+use Rattle.residue.proofs.Laws.Modulus.PartnerModuli.{modulus_positive}
 use Rattle.residue.proofs.Residue.to_signed.Goals as goal
 
 -- the least residue as the machine's signed number, and that number less p

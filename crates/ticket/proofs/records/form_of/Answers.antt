@@ -1,5 +1,6 @@
 use Rattle.std.proofs.Common.{◌≡◌, arith}
-use Rattle.ticket.proofs.Laws.Limits.{bias_columns_most, half_small}
+use Rattle.ticket.proofs.Laws.Limits.ClampedSmall.{bias_columns_most}
+use Rattle.ticket.proofs.Laws.Limits.{half_small}
 use Rattle.ticket.proofs.Laws.Parts.{bounds_small, forms_make}
 use Rattle.ticket.proofs.records.form_of.Goals as goal
 

@@ -2,7 +2,8 @@ use Rattle.std.proofs.Common.{◌≡◌, sym, ap, ◌∙◌}
 use Rattle.ticket.specs.Rules.{refusal, half_range, setting_number, setting_tests, ticket_length, reading}
 use Rattle.ticket.specs.Laws.Tests.{AllHold}
 use Rattle.ticket.specs.Laws.Limits.{clamped}
-use Rattle.ticket.proofs.Laws.Limits.{counts, limits_of, setting_holds, clamped_same, number_by_lem}
+use Rattle.ticket.proofs.Laws.Limits.ClampedSmall.{counts, setting_holds}
+use Rattle.ticket.proofs.Laws.Limits.{limits_of, clamped_same, number_by_lem}
 use Rattle.ticket.proofs.Laws.Scans.{after_refused}
 use Rattle.ticket.proofs.Laws.Refusals.{by_length, refused_reading, records_read}
 use Rattle.ticket.proofs.records.read.Goals as goal

@@ -1,5 +1,5 @@
 use Rattle.std.proofs.Common.{◌≡◌, ◌∙◌, arith, rules}
-use Rattle.writer.proofs.Laws.Rows.{row_claim}
+use Rattle.writer.proofs.Laws.Rows.RowClaim.{row_claim}
 use Rattle.writer.proofs.claims.write_row.Goals as goal
 
 pub loop-column-preserved : goal.loop-column-preserved

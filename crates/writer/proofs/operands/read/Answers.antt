@@ -1,6 +1,7 @@
 use Rattle.std.proofs.Common.{◌≡◌, ◌+◌, ◌^◌, ◌<◌, ◌++◌, length, sym, ap, ◌∙◌, arith, length-append}
 use Rattle.ticket.specs.Rules.{of_bias, start}
-use Rattle.ticket.proofs.Laws.Limits.{clamped_same, counts}
+use Rattle.ticket.proofs.Laws.Limits.{clamped_same}
+use Rattle.ticket.proofs.Laws.Limits.ClampedSmall.{counts}
 use Rattle.ticket.proofs.Laws.Layout.{parts_are}
 use Rattle.ticket.proofs.Laws.Scans.{after_passed, after_refused}
 use Rattle.writer.specs.Laws.Answers.{lengths_reading}

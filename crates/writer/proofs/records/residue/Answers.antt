@@ -1,6 +1,7 @@
 use Rattle.std.proofs.Common.{◌≡◌, ◌^◌, ◌<◌, ℤ, pos, ◌+ℤ◌, arith, w32, to_z, of_z}
 use Rattle.residue.specs.Rules.{modulus, least_residue}
-use Rattle.residue.proofs.Laws.Modulus.{modulus_below, modulus_positive}
+use Rattle.residue.proofs.Laws.Modulus.{modulus_below}
+use Rattle.residue.proofs.Laws.Modulus.PartnerModuli.{modulus_positive}
 use Rattle.residue.proofs.Laws.Residues.{residue_below}
 use Rattle.residue.proofs.Laws.Signed.{natural_is, natural_cast}
 use Rattle.writer.proofs.Laws.Operands.{entry_fits, residue_negative, residue_fits, residue_positive}

@@ -1,6 +1,6 @@
 use Rattle.std.proofs.Common.{refl}
 use Rattle.ticket.specs.Laws.Limits.{clamped}
-use Rattle.ticket.proofs.Laws.Limits.{clamped_small}
+use Rattle.ticket.proofs.Laws.Limits.ClampedSmall.{clamped_small}
 use Rattle.ticket.proofs.setting.Setting.clamped.Goals as goal
 
 pub returns : goal.returns

@@ -1,6 +1,6 @@
 use Rattle.std.proofs.Common.{◌*◌, ap, ◌∙◌, arith}
 use Rattle.ticket.specs.Rules.{record_bytes, ticket_length}
-use Rattle.ticket.proofs.Laws.Layout.{start_past}
+use Rattle.ticket.proofs.Laws.Layout.StartOfB.{start_past}
 use Rattle.ticket.proofs.setting.Setting.length.Goals as goal
 
 pub returns : goal.returns

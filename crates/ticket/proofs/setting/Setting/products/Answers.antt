@@ -1,6 +1,6 @@
 use Rattle.std.proofs.Common.{arith}
 use Rattle.ticket.specs.Laws.Limits.{clamped}
-use Rattle.ticket.proofs.Laws.Limits.{clamped_small}
+use Rattle.ticket.proofs.Laws.Limits.ClampedSmall.{clamped_small}
 use Rattle.ticket.proofs.Laws.Layout.{parts_are}
 use Rattle.ticket.proofs.setting.Setting.products.Goals as goal
 

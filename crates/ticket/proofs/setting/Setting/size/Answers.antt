@@ -1,5 +1,6 @@
 use Rattle.std.proofs.Common.{sym, arith}
-use Rattle.ticket.proofs.Laws.Layout.{parts_are, size_claims, size_past}
+use Rattle.ticket.proofs.Laws.Layout.{parts_are, size_claims}
+use Rattle.ticket.proofs.Laws.Layout.StartOfB.{size_past}
 use Rattle.ticket.proofs.setting.Setting.size.Goals as goal
 
 pub returns-then-part-eq0 : goal.returns-then-part-eq0

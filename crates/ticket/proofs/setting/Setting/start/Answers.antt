@@ -1,7 +1,8 @@
 use Rattle.std.proofs.Common.{arith}
 use Rattle.ticket.specs.Laws.Limits.{clamped, Clamped}
-use Rattle.ticket.proofs.Laws.Limits.{clamped_small}
-use Rattle.ticket.proofs.Laws.Layout.{PartsAre, parts_are, start_past}
+use Rattle.ticket.proofs.Laws.Limits.ClampedSmall.{clamped_small}
+use Rattle.ticket.proofs.Laws.Layout.{PartsAre, parts_are}
+use Rattle.ticket.proofs.Laws.Layout.StartOfB.{start_past}
 use Rattle.ticket.proofs.setting.Setting.start.Goals as goal
 
 pub overflow_add-bias : goal.overflow_add-bias
