@@ -1,4 +1,4 @@
-//! Links the proved static library, which `rt staticlib dikdumar` writes.
+//! Links the proved static library, which `bash .ci/build dikdumar` writes.
 
 use std::env;
 use std::path::Path;
@@ -10,7 +10,7 @@ fn main() {
     println!("cargo:rerun-if-changed={}", archive.display());
     assert!(
         archive.is_file(),
-        "{} is not there: run `rt staticlib dikdumar` first",
+        "{} is not there: run `bash .ci/build dikdumar` first",
         archive.display()
     );
     println!("cargo:rustc-link-search=native={}", folder.display());

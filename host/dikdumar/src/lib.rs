@@ -52,7 +52,7 @@
 //! ```
 //!
 //! The library is linked from target/staticlib/libdikdumar.a, which
-//! `rt staticlib dikdumar` writes.
+//! `bash .ci/build dikdumar` writes.
 
 #![deny(unsafe_code)]
 #![warn(missing_docs)]
