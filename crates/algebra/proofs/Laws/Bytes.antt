@@ -6,7 +6,6 @@ use Rattle.std.specs.Prelude.{ℕ, ◌+◌, ◌*◌, ◌/◌, ◌%◌, ◌^◌, 
 use Rattle.std.proofs.Common.{arith, sym, ap, ◌∙◌, eq-eqb, eqb-true}
 use Rattle.std.proofs.Math.Bool.{and-eq-true_iff}
 use Rattle.algebra.specs.Rules.{word}
-
 pub mod WordEqb
 
 module _ {a b c d : ℕ} (first : a < 256) (second : b < 256) (third : c < 256) (last : d < 256) where

@@ -21,7 +21,6 @@ use Rattle.residue.proofs.Laws.Counting.{Exactly, word_of_word}
 use Rattle.residue.proofs.Laws.Counting.ExactlyButOne.{exactly_through, exactly_words, exactly_but_one}
 use Rattle.algebra.proofs.Laws.Vectors.{word_of_entries, entries_of_word, vector_same, cut, cut_word, cut_vectors, cut_flatten}
 use Rattle.algebra.proofs.Laws.Vectors.CutApart.{cut_apart}
-
 pub mod DrawnNoMore
 
 pub record DrawnVector (n : ℕ) (P : ℕ → Type 0) (nonzero : Bool) (v : ℕ → ℕ) : Type 0 where

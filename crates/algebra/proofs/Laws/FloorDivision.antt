@@ -9,7 +9,6 @@ use Rattle.std.proofs.Math.Arith.{digits_div}
 use Rattle.std.specs.Int.Signed.{le_z_yes, lt_z_yes}
 use Rattle.residue.proofs.Laws.Integers.{positive, negative, equal_of_parts, parts_sum, parts_product}
 use Rattle.algebra.specs.Rules.{floor_division}
-
 pub mod FloorBetween
 
 parts_claim : (q : ℤ) (d r : ℕ)

@@ -25,7 +25,6 @@ use Rattle.residue.proofs.Laws.Integers.{positive, negative, equal_of_parts, par
 use Rattle.residue.proofs.Laws.Residues.{residue_of_natural, residue_sum, residue_product}
 use Rattle.residue.proofs.Laws.Sums.{sum_none, sum_more, sum_cong, sum_mod, sum_mod_cong}
 use Rattle.algebra.specs.Rules.{int_sum}
-
 pub mod ResidueDot
 
 pub int_sum_none : (f : ℕ → ℤ) → int_sum 0 f ≡ pos 0

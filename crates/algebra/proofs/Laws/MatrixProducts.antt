@@ -19,7 +19,6 @@ use Rattle.residue.proofs.Laws.Sums.{sum_cong, sum_scale, sum_swap, sum_mod_cong
 use Rattle.algebra.specs.Rules.{int_sum, matrix_product}
 use Rattle.algebra.proofs.Laws.IntegerSums.{int_sum_cong, int_sum_bound, int_sum_total, int_sum_difference, size_product}
 use Rattle.algebra.proofs.Laws.IntegerSums.ResidueDot.{residue_products, residue_dot}
-
 pub mod SumThrough
 
 pub matrix_product_is : (m : ℕ) (A B : ℕ → ℕ → ℤ) (i j : ℕ) → matrix_product m A B i j ≡ int_sum m (λ k. A i k *ℤ B k j)

@@ -11,7 +11,6 @@ use Rattle.std.proofs.Common.{arith, sym, ap, ◌∙◌, subst, eq-eqb, ne_eqb}
 use Rattle.std.proofs.lemmas.Bool.{false≢true}
 use Rattle.std.proofs.Math.Bool.{or-true}
 use Rattle.residue.proofs.Laws.Counting.{Exactly, Different, listed, length_listed, get_or_listed}
-
 pub mod ContainedExactly
 pub mod RangeContains
 pub mod RangeDifferent

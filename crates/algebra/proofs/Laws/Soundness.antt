@@ -26,7 +26,6 @@ use Rattle.algebra.proofs.Laws.Positions.{by_rows}
 use Rattle.algebra.proofs.Laws.Vectors.{without, without_apart, without_word, word_of_entries, vector_same, cut, cut_word}
 use Rattle.algebra.proofs.Laws.Vectors.CutApart.{cut_apart}
 use Rattle.algebra.proofs.Laws.Drawn.{DrawnVector, Drawn, drawn_any, drawn_cong, drawn_other}
-
 pub mod OneColumn
 pub mod PassingAtMost
 pub mod PassingCount

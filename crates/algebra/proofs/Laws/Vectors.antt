@@ -13,7 +13,6 @@ use Rattle.std.proofs.Common.{add_comm, zero-mul, suc-mul, mul-le-mul_right, ari
 use mathlib.Core.List.{List, [], ◌∷◌, ◌++◌, flatten}
 use Rattle.std.proofs.Math.Seq.{take-append_seam, drop-append_seam}
 use Rattle.residue.proofs.Laws.Counting.{Word}
-
 pub mod CutApart
 
 pub word_of_entries : (P : ℕ → Type 0) (n : ℕ) (x : List ℕ) → length x ≡ n → ((k : ℕ) → k < n → P (get_or x k 0)) → Word P n x

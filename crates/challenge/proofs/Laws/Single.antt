@@ -59,7 +59,6 @@ use Rattle.challenge.specs.Laws.Sides.{RoomFor, RowDecoded}
 use Rattle.challenge.proofs.Laws.Sides.{sides_balanced}
 use Rattle.challenge.proofs.Laws.Vectors.{vector_numbers, vector_words, product_by}
 use Rattle.challenge.specs.Laws.Single.{RowReady, LineReady, DecodeRowReady}
-
 pub mod BalancedReduced
 pub mod RowMadeLem
 
@@ -222,7 +221,6 @@ module _ {G : Setting} {t x : List ℕ} {τ i : ℕ} (ready : RowReady G t x τ 
   line_numbers = vector_numbers ready.vector room z-is widened
 
 module _ (G : Setting) (t x : List ℕ) (τ i : ℕ) {a : Answer} (a-is : a ≡ testing G t x) where
-
   module _ (passed : a.number ≡ 0) (vector : τ < G.vectors) (row : i < G.rows) where
     pub row_ready : RowReady G t x τ i
     row_ready =

@@ -33,7 +33,6 @@ use Rattle.ticket.proofs.Laws.Refusals.{Refused, passed_reading, passed_or_refus
 use Rattle.ticket.proofs.Laws.Refusals.RefusedInTable.{refused_in_table}
 use Rattle.full.specs.Rules.{holds, untrue, full_accepted, full_verdict, full_check, FullAccepted}
 use Rattle.full.proofs.Laws.Same.{same_equal, same_other, equal_of_same}
-
 pub mod FullAcceptedClaims
 pub mod FullAcceptedTrue
 pub mod FullAcceptedExactly

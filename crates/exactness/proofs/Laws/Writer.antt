@@ -23,7 +23,6 @@ use Rattle.writer.proofs.Laws.Answers.{Lengths, WriterAnswered, setting_failed, 
 use Rattle.writer.proofs.Laws.Answers.OutputWritten.{output_written}
 use Rattle.writer.proofs.Laws.Operands.{within_of, beyond_of}
 use Rattle.writer.proofs.Laws.Records.{length_ticket_of}
-
 pub mod OutputLong
 pub mod LengthOutput
 
@@ -36,7 +35,6 @@ pub data WriterRow (G : Setting) : Answer → Type 0 where
   output_length_row : WriterRow G (answer 15 0 0 0)
 
 module _ (G : Setting) (A B C : List ℤ) where
-
   module _ (size : ℕ) where
     answered_output : Writable G A B C → (a : Answer) × WriterAnswered G A B C size a
     answered_output w =

@@ -46,7 +46,6 @@ use Rattle.writer.proofs.Laws.Entries.{limits, size_a, size_b, size_c, no_bias, 
 use Rattle.writer.proofs.Laws.Records.{record_read, length_records, length_ticket_of, ticket_record_at, ticket_formed, ticket_value, value_in_ticket}
 use Rattle.exactness.proofs.Laws.Full.FullAcceptedTrue.{full_accepted_true, full_accepted_number}
 use Rattle.exactness.proofs.Laws.Writer.OutputLong.{writable_of}
-
 pub mod WrittenSum
 pub mod WrittenTrue
 pub mod WrittenChallengeAccepted
@@ -86,7 +85,6 @@ same_sums G A A' B B' C C' i j row column bias =
     ∙ sym (biased_sum_is G A' B' C' i j)
 
 module _ {G : Setting} {A B C : List ℤ} (w : Writable G A B C) where
-
   module _ (i j : ℕ) (l : i < G.rows) (m : j < G.columns) where
     pub size_quotient_of : let q = quotient_of G A B C i j in (negative q ≤ positive q + half_range G) × (positive q < half_range G + negative q)
     unfolding quotient_of
@@ -199,7 +197,6 @@ module _ (G : Setting) (A B C : List ℤ) (t : List ℕ) (bytes : (k : ℕ) → 
     (same_A : (i k : ℕ) → i < G.rows → k < G.inner → entry_a G t i k ≡ entry_of G.inner A i k)
     (same-B : (k j : ℕ) → k < G.inner → j < G.columns → entry_b G t k j ≡ entry_of G.columns B k j)
     (same-C : (i j : ℕ) → i < G.rows → j < G.columns → entry_bias G t i j ≡ entry_of (bias_columns G) C i j) where
-
   module _ (i j : ℕ) (l : i < G.rows) (m : j < G.columns) where
     same_sum : pos G.scale *ℤ quotient G t i j +ℤ remainder G t i j ≡ dividend G (sum_for G A B C i j)
     same_sum =

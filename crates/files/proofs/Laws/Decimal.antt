@@ -7,7 +7,6 @@ use Rattle.std.specs.Prelude.{ℕ, zero, suc, ◌/◌, ◌%◌, ◌^◌, ◌≤�
 use Rattle.std.proofs.Math.Decide.{dec_le}
 use Rattle.std.proofs.Common.{pow-suc, arith, ap, lt-ltb, le-ltb, length-append}
 use Rattle.files.specs.Rules.{digit, digits_of, decimal}
-
 pub mod DecimalShort
 
 enough : (j k n : ℕ) → n < j → n < k → digits_of j n ≡ digits_of k n

@@ -17,7 +17,6 @@ use Rattle.files.proofs.Laws.Prefixes.{leads}
 use Rattle.files.proofs.Laws.Decimal.{decimal_digit, decimal_longer}
 use Rattle.files.proofs.Laws.Decimal.DecimalShort.{decimal_short}
 use Rattle.files.specs.Laws.Lines.{Put, longest_field}
-
 pub mod PutLine
 
 put_long : {before after text : List ℕ} {at next : ℕ} → Put before at text next after → length after ≡ length before

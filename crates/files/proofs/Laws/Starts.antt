@@ -23,7 +23,6 @@ use Rattle.files.specs.Rules.{setting_bytes, number_bytes, setting_of, file_chec
 use Rattle.files.proofs.Laws.Prefixes.{by_start}
 use Rattle.files.proofs.Laws.Checks.{setting_file_refused, after_setting}
 use Rattle.files.specs.Laws.Starts.{longest_challenge, Begins, BuffersRoom, AnswerFor}
-
 pub mod ChallengeStart
 pub mod StartDecides
 pub mod ReadDecides

@@ -23,7 +23,6 @@ use Rattle.quote.specs.declared.Quote.{Quote}
 use Rattle.quote.specs.Rules.{smallest_width, quote_limits, quote_tests, figures, no_figures, quote_of}
 use Rattle.quote.proofs.Laws.Widths.{Smallest, NoneFits, smallest_is, none_is, smallest_or_none, LimitsHold, limit_number, tried}
 use Rattle.quote.proofs.Laws.Widths.TriedUnfit.{tried_fits}
-
 pub mod PassingQuoted
 pub mod ConditionOf
 pub mod UnquotedExactly

@@ -29,7 +29,6 @@ use Rattle.ticket.proofs.Laws.Tests.{Failed, hold_or_failed, holding_number, fai
 use Rattle.ticket.specs.Laws.Widths.{widened}
 use Rattle.ticket.proofs.Laws.Widths.WidenedNumber.{widened_number}
 use Rattle.quote.specs.Rules.{smallest_width, quote_limits}
-
 pub mod TriedUnfit
 
 pub record Smallest (G : Setting) (v : ℕ) : Type 0 where

@@ -20,7 +20,6 @@ use Rattle.std.proofs.Common.{mod-lt, div-lt_iff_lt-mul, arith, sym, ◌∙◌, 
 use Rattle.std.proofs.Math.Arith.{digits_lt, digits_div, digits_mod}
 use Rattle.std.proofs.Math.Path.{refl, ap}
 use Rattle.residue.proofs.Laws.Modulo.{factor_positive}
-
 pub mod ExactlyButOne
 
 pub record AtMost {A : Type 0} (P : A → Type 0) (c : ℕ) : Type 0 where

@@ -15,7 +15,6 @@ use Rattle.std.proofs.Common.{mul_comm, pow-suc, zero-mul, suc-mul, mul-zero, sy
 use Rattle.std.proofs.Math.Decide.{dec_lt}
 use native.Mathlib.Omega.{arith}
 use Rattle.residue.specs.Laws.Modulo.{carried_sum}
-
 pub mod CarriedHigh
 pub mod CarriedSumLem
 

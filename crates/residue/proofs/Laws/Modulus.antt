@@ -9,7 +9,6 @@ use Rattle.std.specs.Prelude.{◌≡◌, ℕ, ◌+◌, ◌-◌, ◌*◌, ◌%◌
 use Rattle.std.proofs.Common.{arith, lit<}
 use Rattle.residue.specs.Rules.{modulus, Prime}
 use Rattle.residue.proofs.Laws.Primes.{undivided, prime_of_test, prime_positive, prime_odd}
-
 pub mod PartnerModuli
 
 abbrev last : ℕ

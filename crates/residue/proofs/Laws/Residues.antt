@@ -22,7 +22,6 @@ use Rattle.std.proofs.lemmas.Bool.{lt-leb}
 use Rattle.residue.specs.Rules.{least_residue, signed_entry}
 use Rattle.residue.proofs.Laws.Modulo.{mod_of_multiples}
 use Rattle.residue.proofs.Laws.Integers.{positive, negative, equal_of_parts, parts_sum, parts_difference, parts_product}
-
 pub mod ResidueDifference
 pub mod ResidueClose
 

@@ -18,7 +18,6 @@ use Rattle.std.proofs.Math.Facts.{sfits_widen}
 use Rattle.residue.specs.Rules.{least_residue}
 use Rattle.residue.proofs.Laws.Integers.{positive, negative, equal_of_parts, parts_sum}
 use Rattle.residue.proofs.Laws.Residues.{residue_shift}
-
 pub mod LiftedResidue
 
 abbrev pub wide_sum : ℤ → ℕ → ℤ

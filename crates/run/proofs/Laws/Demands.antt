@@ -13,7 +13,6 @@ use Rattle.soundness.proofs.Laws.DrawnLists.{Allowed, DrawnFrom, list_count, dra
 use Rattle.soundness.proofs.Laws.Demands.AcceptedExactlyWellFormed.{one_accepted, accepted_few}
 use Rattle.run.specs.Rules.{held_list, complete, Action, ran}
 use Rattle.run.proofs.Laws.Runs.CompleteNumber.{run_ends, complete_number}
-
 pub mod OneComplete
 
 pub record Completes (P : PlainSetting) (t y : List ℕ) : Type 0 where

@@ -25,7 +25,6 @@ use Rattle.run.specs.Rules.{layer, held_list, is_past, is_caught, is_finished, p
 use Rattle.run.proofs.Laws.Additions.{addition_passed, addition_sizes, unfinished_open}
 use Rattle.run.proofs.Laws.Kept.{Kept, kept_begun, kept_worked, kept_lengthened, held_begun, held_lengthened}
 use Rattle.run.proofs.Laws.States.{unfinished, not_past, standing_past, standing_caught, standing_under, tested_refused, tested_passed, worked_is, worked_same, worked_count, testing_passed}
-
 pub mod RunStops
 pub mod RunRefused
 pub mod CompleteNumber

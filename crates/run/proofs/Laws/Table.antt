@@ -26,7 +26,6 @@ use Rattle.run.specs.declared.Run.{Run}
 use Rattle.run.specs.declared.RunAnswer.{RunAnswer}
 use Rattle.run.specs.Rules.{layer, held_list, is_past, is_caught, products_done, under_way, caught_mark, complete, refused, marked, standing, tested, zeros, begun, beginning, stepping, one_more, lengthened, is_open, addition_reading, adding}
 use Rattle.run.proofs.Laws.States.{not_past, standing_past, standing_caught, standing_under, tested_refused, tested_passed}
-
 pub mod AddInTable
 
 pub data StateRow : RunAnswer → Type 0 where

@@ -24,7 +24,6 @@ use Rattle.challenge.specs.Rules.{challenge_products, caught_products, WellForme
 use Rattle.challenge.proofs.Laws.Checks.{check_ticket, check_list, check_rows}
 use Rattle.challenge.specs.Laws.Lists.{ZeroVector}
 use Rattle.challenge.proofs.Laws.Lists.{well_formed_is, other_length, first_large, first_zero, ListAnswer, other_count, large_number, zero_at, formed, list_answered}
-
 pub mod AnswerInTable
 
 pub data TableRow (G : Setting) : Answer → Type 0 where

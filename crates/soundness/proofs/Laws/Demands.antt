@@ -35,7 +35,6 @@ use Rattle.challenge.specs.Rules.{challenge_at, WellFormed, product_b, claim_sid
 use Rattle.challenge.proofs.Laws.Lists.{well_formed_is}
 use Rattle.soundness.proofs.Laws.Answers.{AllBalanced}
 use Rattle.soundness.proofs.Laws.Answers.AnswerInTable.{accepted_exactly, accepted_number}
-
 pub mod FalseWrong
 pub mod AcceptedExactlyWellFormed
 pub mod AcceptedShare

@@ -36,7 +36,6 @@ use Rattle.challenge.specs.Laws.Lists.{ZeroVector}
 use Rattle.challenge.proofs.Laws.Lists.{well_formed_is}
 use Rattle.soundness.proofs.Laws.Demands.{accepted_is}
 use Rattle.soundness.proofs.Laws.Demands.FalseWrong.{difference, balanced_is, false_wrong}
-
 pub mod DrawnAcceptedShare
 pub mod BelowShare
 

@@ -13,7 +13,6 @@ use Rattle.ticket.specs.Rules.{Passes, FalseIn}
 use Rattle.challenge.specs.Rules.{WellFormed, Accepted}
 use Rattle.soundness.proofs.Laws.DrawnLists.{Below}
 use Rattle.soundness.proofs.Laws.DrawnLists.BelowShare.{below_few, below_share, below_exactly}
-
 pub mod SixteenBitShare
 pub mod TwoShortVectors
 

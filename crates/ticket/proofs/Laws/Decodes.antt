@@ -41,7 +41,6 @@ use Rattle.ticket.proofs.Laws.Differences.{bias_entry, no_bias_entry}
 use Rattle.ticket.proofs.Laws.Differences.TicketDecided.{residue_bias, size_entry_a, size_entry_b, shifted_below, remainder_below, residue_entry_b}
 use Rattle.ticket.specs.Laws.Lifts.{Lifted}
 use Rattle.ticket.specs.Laws.Decodes.{narrow_shift, narrowed, ShiftedList, NarrowList, LiftedList, negated_word, LessList, ShiftedEntries, ShiftedRow, LiftedRow, LiftedClaims}
-
 pub mod ClaimsLess
 
 pub filled_to : {A : Type 0} {d : A} {before list : List A} {f : ℕ → A} {k n : ℕ} → k ≡ n → Filled d before k f list → Filled d before n f list
@@ -138,7 +137,6 @@ module _ {G : Setting} {t : List ℕ} (passed : Passed G t) where
   -- an entry of A, with the bound added
 
   module _ {a before b : List ℕ} (b-is : b ≡ part_bytes (clamped G) t of_a) where
-
     module _ (room : G.rows * G.inner ≤ length before) (filled : ShiftedList b G.bound before a) where
       shifted_at_lem : (i k : ℕ) → i < G.rows → k < G.inner
           → slice_index a (i * G.inner + k) ≡ carried_sum modulus (value_in G t of_a i k) G.bound
@@ -178,7 +176,6 @@ module _ {G : Setting} {t : List ℕ} (passed : Passed G t) where
 
   module _ {y before q r : List ℕ} {half : ℕ} (q-is : q ≡ part_bytes (clamped G) t of_quotients) (r-is : r ≡ part_bytes (clamped G) t of_remainders)
       (half_is : half ≡ half_range (clamped G)) where
-
     module _ (room : G.rows * G.columns ≤ length before) (filled : LiftedList q r half G.scale before y) where
       lifted_at_lem : (i j : ℕ) → i < G.rows → j < G.columns → slice_index y (i * G.columns + j) ≡ lifted_in half i j
       unfolding parts part
@@ -210,7 +207,6 @@ module _ {G : Setting} {t : List ℕ} (passed : Passed G t) where
       (omega (arith, parts_difference (pos x) (pos narrow_shift), ap positive shifted, ap negative shifted, parts_sum z (pos narrow_shift)))
 
   module _ {d y y' : List ℕ} (d-is : d ≡ part_bytes (clamped G) t of_bias) (claims : LiftedClaims G t y') (less : LessList d y' y) where
-
     module _ (i j : ℕ) (l : i < G.rows) (m : j < G.columns) where
       abbrev k : ℕ
       k = i * G.columns + j

@@ -27,7 +27,6 @@ use Rattle.ticket.proofs.Laws.Limits.{half_double, range_double, with_bias_lem}
 use Rattle.ticket.proofs.Laws.Limits.ClampedSmall.{bias_there}
 use Rattle.ticket.specs.Laws.Passes.{Passed}
 use Rattle.ticket.proofs.Laws.Passes.{Valid, valid}
-
 pub mod ClaimsTrue
 pub mod TicketDecided
 pub mod ClaimsClose

@@ -25,7 +25,6 @@ use Rattle.ticket.proofs.Laws.Layout.{parts_are, held}
 use Rattle.ticket.proofs.Laws.Layout.StartOfB.{length_is}
 use Rattle.ticket.specs.Laws.Limits.{Numbers}
 use Rattle.ticket.proofs.Laws.Limits.{with_bias_lem, without_bias, range_double}
-
 pub mod PlainOutside
 
 pub plain_none : (P : PlainSetting) → has_bias (plain P) ≡ false

@@ -34,7 +34,6 @@ use Rattle.ticket.specs.declared.setting.Setting.{Setting}
 use Rattle.ticket.specs.Rules.{half_range, is_entry, shifted_quotient, Test, test, Part, no_part, parts, part, part_size, count, start, records, record_bytes, ticket_length, holder, of_a, of_b, of_bias, of_quotients, of_remainders, bias_bound, bias_columns, byte_at, value_at, formed, part_tests, record_tests, value_in}
 use Rattle.ticket.specs.Laws.Limits.{Counts}
 use Rattle.ticket.specs.Laws.Layout.{longest_ticket, part_bytes, PartIs}
-
 pub mod StartOfB
 pub mod LengthMost
 

@@ -27,7 +27,6 @@ use Rattle.ticket.specs.Laws.Tests.{AllHold}
 use Rattle.ticket.proofs.Laws.Tests.{Failed, here, later, first_holds, rest_hold, Numbered, failed_split}
 use Rattle.ticket.proofs.Laws.Tests.TestsHold.{tests_hold}
 use Rattle.ticket.specs.Laws.Limits.{Sizes, Numbers, Fitted, Counts, Within, lift, clamped, number_by, Clamped}
-
 pub mod ClampedSmall
 pub mod BiasSmall
 pub mod SettingInTable

@@ -26,7 +26,6 @@ use Rattle.ticket.proofs.Laws.Limits.BiasSmall.{SettingRow}
 use Rattle.ticket.proofs.Laws.Limits.SettingInTable.{setting_in_table}
 use Rattle.ticket.proofs.Laws.Layout.{each_part, located_at, located_tests, tests_located}
 use Rattle.ticket.proofs.Laws.Scans.{refusal_none, refusal_is, zeros_or_first, after_passed, after_refused}
-
 pub mod RefusedInTable
 
 pub record PassedTo (G : Setting) (t : List ℕ) (k : ℕ) : Type 0 where

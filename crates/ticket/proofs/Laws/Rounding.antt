@@ -17,7 +17,6 @@ use Rattle.ticket.specs.Rules.{test, first_failed, reach, half_range, sizes_with
 use Rattle.ticket.proofs.Laws.First.{true_or_false}
 use Rattle.ticket.specs.Laws.Limits.{renumbered}
 use Rattle.ticket.proofs.Laws.Limits.{numbers_of}
-
 pub mod UnroundedClaim
 
 module _ (G : Setting) (none : G.rounding ≡ 0) where

@@ -19,7 +19,6 @@ use Rattle.std.proofs.lemmas.Bool.{lt-leb}
 use Rattle.ticket.specs.Rules.{Test, first_failed}
 use Rattle.ticket.proofs.Laws.First.{true_or_false}
 use Rattle.ticket.specs.Laws.Tests.{AllHold, none, one}
-
 pub mod TestsHold
 
 pub data Failed : List Test → ℕ → Type 0 where

@@ -12,7 +12,6 @@ use Rattle.residue.proofs.Laws.Modulus.{modulus_below}
 use Rattle.ticket.specs.declared.setting.Setting.{Setting}
 use Rattle.ticket.specs.Rules.{test, first_failed, most_width, sizes_within, scale_and_bound_within, numbers_within, bias_within, rounding_within, fits_width, limit_tests, setting_tests, setting_number, sum_products, has_bias, bias_bound, bias_columns, parts, count, records, ticket_length}
 use Rattle.ticket.specs.Laws.Widths.{widened}
-
 pub mod WidenedNumber
 
 pub record Unread (G : Setting) (v : ℕ) : Type 0 where

@@ -28,7 +28,6 @@ use Rattle.ticket.proofs.Laws.Tests.{Failed, holding_number, failed_number, fail
 use Rattle.writer.specs.Rules.{beyond_number, operands_reading, written, writing, ticket_of, output_after}
 use Rattle.writer.proofs.Laws.Operands.{number_within, within_of, beyond_none, beyond_at}
 use Rattle.writer.specs.Laws.Answers.{Writable, lengths_reading}
-
 pub mod OutputWritten
 
 pub record Lengths (G : Setting) (A B C : List ℤ) : Type 0 where

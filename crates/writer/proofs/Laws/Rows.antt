@@ -41,7 +41,6 @@ use Rattle.writer.proofs.Laws.Records.{integer_quotient, integer_remainder}
 use Rattle.writer.specs.Laws.Writes.{Wrote, Among}
 use Rattle.writer.proofs.Laws.Writes.{wrote_none, wrote_as, wrote_both, both_on}
 use Rattle.writer.specs.Laws.Rows.{RowReady, RowOf, RowTo, RowWrote, Room, RowsReady, ClaimsWrote}
-
 pub mod RowClaim
 
 bias_entry : {G : Setting} {A B C : List ℤ} → Writable G A B C → (row j : ℕ) → slice_index_or C (row * G.columns + j) (pos 0) ≡ entry_of (bias_columns G) C row j

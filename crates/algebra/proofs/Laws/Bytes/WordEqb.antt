@@ -1,8 +1,8 @@
 -- What rests on Bytes.
 --
 --   word_eqb        two such numbers are equal exactly when their bytes are
-use Rattle.std.specs.Prelude.{ℕ, ◌+◌, ◌*◌, ◌/◌, ◌%◌, ◌^◌, ◌<◌, ◌≡◌, refl, Bool, true, false, ◌&&◌, eqb}
-use Rattle.std.proofs.Common.{arith, sym, ap, ◌∙◌, eq-eqb, eqb-true}
+use Rattle.std.specs.Prelude.{ℕ, ◌/◌, ◌%◌, ◌<◌, ◌≡◌, true, ◌&&◌, eqb}
+use Rattle.std.proofs.Common.{sym, ap, ◌∙◌, eq-eqb, eqb-true}
 use Rattle.std.proofs.Math.Bool.{and-eq-true_iff}
 use Rattle.algebra.specs.Rules.{word}
 use Rattle.algebra.proofs.Laws.Bytes.{bytes_of_word, same_tests}

@@ -2,12 +2,9 @@
 --
 --   floor_unique    the quotient is the only integer that leaves one
 --   floor_between   the dividend is at least the divisor times the quotient, and below the divisor times one more
-use Rattle.std.specs.Prelude.{ℕ, suc, ◌+◌, ◌-◌, ◌*◌, ◌/◌, ◌%◌, ◌≤◌, ◌<◌, ◌≡◌, ℤ, pos, negsuc, ◌+ℤ◌, ◌*ℤ◌, ◌≤ℤ◌, ◌<ℤ◌}
-use Rattle.std.proofs.Math.Nat.{div-add-mod}
-use Rattle.std.proofs.Common.{mod-lt, arith, sym, ap, ◌∙◌, le→leb, lt→ltb}
-use Rattle.std.proofs.Math.Arith.{digits_div}
-use Rattle.std.specs.Int.Signed.{le_z_yes, lt_z_yes}
-use Rattle.residue.proofs.Laws.Integers.{positive, negative, equal_of_parts, parts_sum, parts_product}
+use Rattle.std.specs.Prelude.{ℕ, ◌+◌, ◌*◌, ◌<◌, ◌≡◌, ℤ, pos, ◌+ℤ◌, ◌*ℤ◌, ◌≤ℤ◌, ◌<ℤ◌}
+use Rattle.std.proofs.Common.{arith, sym, ap, ◌∙◌}
+use Rattle.residue.proofs.Laws.Integers.{positive, negative, parts_sum, parts_product}
 use Rattle.algebra.specs.Rules.{floor_division}
 use Rattle.algebra.proofs.Laws.FloorDivision.{floor_left, order_of_parts, parts_claim, same_quotient}
 

@@ -2,18 +2,14 @@
 --
 --   residue_products     and of a row times a column
 --   residue_dot          the least residue of a row times a vector of natural numbers
-use Prim.Native.Nat.{ℕ, zero, suc, ◌+◌, ◌*◌, ◌%◌, ◌≤◌, ◌<◌}
-use Rattle.std.proofs.Common.{add-zero, add-suc, arith, sym, ◌∙◌}
-use Rattle.std.proofs.Math.Nat.{mod-add-mod}
-use Rattle.std.proofs.Math.Numerals.{add-one}
-use Rattle.std.specs.Prelude.{◌≡◌, refl, ℤ, pos, negsuc, neg_ℤ, nat_abs, ◌+ℤ◌, ◌-ℤ◌, ◌*ℤ◌}
+use Prim.Native.Nat.{ℕ, ◌*◌, ◌%◌, ◌<◌}
+use Rattle.std.proofs.Common.{sym, ◌∙◌}
+use Rattle.std.specs.Prelude.{◌≡◌, ℤ, pos, ◌*ℤ◌}
 use Rattle.std.proofs.Math.Path.{ap}
-use Rattle.std.proofs.Math.IntN.{+ℤ_idr, +ℤ_assoc}
 use Rattle.residue.specs.Rules.{least_residue, sum}
 use Rattle.residue.proofs.Laws.Modulo.{mod_mul_left, mod_mul}
-use Rattle.residue.proofs.Laws.Integers.{positive, negative, equal_of_parts, parts_sum, parts_difference, parts_product}
-use Rattle.residue.proofs.Laws.Residues.{residue_of_natural, residue_sum, residue_product}
-use Rattle.residue.proofs.Laws.Sums.{sum_none, sum_more, sum_cong, sum_mod, sum_mod_cong}
+use Rattle.residue.proofs.Laws.Residues.{residue_of_natural, residue_product}
+use Rattle.residue.proofs.Laws.Sums.{sum_cong, sum_mod, sum_mod_cong}
 use Rattle.algebra.specs.Rules.{int_sum}
 use Rattle.algebra.proofs.Laws.IntegerSums.{residue_int_sum}
 

@@ -1,19 +1,15 @@
 -- What rests on MatrixProducts.
 --
 --   sum_through          with row i of C times x added, it is row i of A B + C times x
-use Prim.Native.Nat.{ℕ, ◌+◌, ◌*◌, ◌%◌, ◌≤◌, ◌<◌}
-use Rattle.std.proofs.Common.{mul_comm, mul-le-mul, arith, ◌∙◌}
-use Rattle.std.specs.Prelude.{◌≡◌, refl, ◌↔◌, ℤ, nat_abs, ◌+ℤ◌, ◌-ℤ◌, ◌*ℤ◌}
+use Prim.Native.Nat.{ℕ, ◌+◌, ◌%◌, ◌<◌}
+use Rattle.std.proofs.Common.{◌∙◌}
+use Rattle.std.specs.Prelude.{◌≡◌, ℤ, ◌+ℤ◌, ◌*ℤ◌}
 use Rattle.std.proofs.Math.Path.{sym, ap}
 use Rattle.std.proofs.Math.IntN.{pos}
-use Rattle.residue.specs.Rules.{least_residue, sum}
-use Rattle.residue.proofs.Laws.Modulo.{mod_mul_left, mod_mul}
-use Rattle.residue.proofs.Laws.Residues.{residue_sum, residue_zero}
-use Rattle.residue.proofs.Laws.Residues.ResidueClose.{residue_same}
-use Rattle.residue.proofs.Laws.Sums.{sum_cong, sum_scale, sum_swap, sum_mod_cong}
+use Rattle.residue.specs.Rules.{least_residue}
+use Rattle.residue.proofs.Laws.Residues.{residue_sum}
 use Rattle.algebra.specs.Rules.{int_sum, matrix_product}
-use Rattle.algebra.proofs.Laws.IntegerSums.{int_sum_cong, int_sum_bound, int_sum_total, int_sum_difference, size_product}
-use Rattle.algebra.proofs.Laws.IntegerSums.ResidueDot.{residue_products, residue_dot}
+use Rattle.algebra.proofs.Laws.IntegerSums.{int_sum_total}
 use Rattle.algebra.proofs.Laws.MatrixProducts.{product_through}
 
 module _ (p : ℕ) (above : 0 < p) where

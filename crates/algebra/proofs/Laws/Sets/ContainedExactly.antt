@@ -2,12 +2,9 @@
 --
 --   contained_below     it is below c, where all of the list are
 --   contained_exactly   of a list of different numbers, exactly as many are as it is long
-use Rattle.std.specs.Prelude.{ℕ, zero, suc, ◌<◌, ◌≡◌, refl, ◌↔◌, Bool, true, false, cond, ◌||◌, List, [], ◌∷◌, eqb, length, get_or}
-use Rattle.std.proofs.Math.Decide.{ℕ_discrete, dec_lt}
-use Rattle.std.proofs.Common.{arith, sym, ap, ◌∙◌, subst, eq-eqb, ne_eqb}
-use Rattle.std.proofs.lemmas.Bool.{false≢true}
-use Rattle.std.proofs.Math.Bool.{or-true}
-use Rattle.residue.proofs.Laws.Counting.{Exactly, Different, listed, length_listed, get_or_listed}
+use Rattle.std.specs.Prelude.{ℕ, ◌<◌, ◌≡◌, true, List, length, get_or}
+use Rattle.std.proofs.Common.{arith, sym, ap, ◌∙◌}
+use Rattle.residue.proofs.Laws.Counting.{Exactly, Different}
 use Rattle.algebra.proofs.Laws.Sets.{contains, contains_at, place, place_found, same_place}
 
 pub contained_below : (set : List ℕ) (c : ℕ) → ((k : ℕ) → k < length set → get_or set k 0 < c) → (a : ℕ) → contains set a ≡ true → a < c

@@ -1,10 +1,10 @@
 -- What rests on Decimal.
 --
 --   decimal_short    a number below 10^k has at most k digits, where k is not 0
-use Rattle.std.specs.Prelude.{ℕ, zero, suc, ◌/◌, ◌%◌, ◌^◌, ◌≤◌, ◌<◌, ◌≡◌, [], ◌∷◌, ◌++◌, length}
+use Rattle.std.specs.Prelude.{ℕ, zero, suc, ◌/◌, ◌%◌, ◌^◌, ◌≤◌, ◌<◌, [], ◌∷◌, length}
 use Rattle.std.proofs.Math.Decide.{dec_le}
-use Rattle.std.proofs.Common.{pow-suc, arith, ap, lt-ltb, le-ltb, length-append}
-use Rattle.files.specs.Rules.{digit, digits_of, decimal}
+use Rattle.std.proofs.Common.{pow-suc, arith, length-append}
+use Rattle.files.specs.Rules.{digit, decimal}
 use Rattle.files.proofs.Laws.Decimal.{decimal_digit, decimal_longer}
 
 pub decimal_short : (k n : ℕ) → n < 10 ^ suc k → length (decimal n) ≤ suc k

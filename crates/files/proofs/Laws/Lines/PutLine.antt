@@ -1,17 +1,13 @@
 -- What rests on Lines.
 --
 --   put_line         four fields are the line
-use Rattle.std.specs.Prelude.{ℕ, ◌+◌, ◌/◌, ◌%◌, ◌^◌, ◌≤◌, ◌<◌, ◌≡◌, List, [], ◌∷◌, ◌++◌, length, take, drop, set}
-use Rattle.std.proofs.Common.{add-one, arith, sym, ap, ◌∙◌, append_assoc, length-append, length-drop, take_at, drop-drop, length-take-le}
-use Rattle.std.proofs.lemmas.List.{set_split}
-use Rattle.std.proofs.Math.Seq.{drop-append-add}
+use Rattle.std.specs.Prelude.{ℕ, ◌≡◌, List, ◌++◌, length, drop}
+use Rattle.std.proofs.Common.{arith, ◌∙◌}
 use Rattle.ticket.specs.declared.Answer.{Answer}
-use Rattle.files.specs.Rules.{digit, space, line_feed, decimal, field, line_of}
+use Rattle.files.specs.Rules.{space, line_feed, field, line_of}
 use Rattle.files.specs.Laws.Prefixes.{Leads}
 use Rattle.files.proofs.Laws.Prefixes.{leads}
-use Rattle.files.proofs.Laws.Decimal.{decimal_digit, decimal_longer}
-use Rattle.files.proofs.Laws.Decimal.DecimalShort.{decimal_short}
-use Rattle.files.specs.Laws.Lines.{Put, longest_field}
+use Rattle.files.specs.Laws.Lines.{Put}
 use Rattle.files.proofs.Laws.Lines.{put_long, put_more}
 
 pub put_line : {first second third fourth after : List ℕ} {i j k l : ℕ} (a : Answer) → Put first 0 (field a.number space) i second

@@ -1,24 +1,16 @@
 -- What rests on Starts.
-use Rattle.std.specs.Prelude.{ℕ, ◌*◌, ◌<◌, min, ◌≡◌, false, List, ◌++◌, length, take, drop}
+use Rattle.std.specs.Prelude.{ℕ, ◌<◌, ◌≡◌, List, length, take}
 use Rattle.std.proofs.Math.Decide.{ℕ_discrete}
-use Rattle.std.proofs.Common.{arith, ⊎_elim, sym, ap, ◌∙◌, ne_eqb, length-append, length-take, length-drop, take_at}
+use Rattle.std.proofs.Common.{arith, sym, ap, ◌∙◌}
 use Rattle.ticket.specs.declared.setting.Setting.{Setting}
-use Rattle.ticket.specs.declared.Answer.{Answer}
-use Rattle.ticket.specs.Rules.{refusal, after, setting_tests, setting_number, reading, has_bias}
-use Rattle.ticket.proofs.Laws.Tests.{hold_or_failed, failed_number}
-use Rattle.ticket.proofs.Laws.Limits.ClampedSmall.{counts}
-use Rattle.ticket.proofs.Laws.Limits.{limits_of, without_bias}
+use Rattle.ticket.specs.Rules.{refusal, after, setting_number, reading}
 use Rattle.ticket.specs.Laws.Layout.{longest_ticket}
-use Rattle.ticket.proofs.Laws.Layout.LengthMost.{length_most}
-use Rattle.ticket.proofs.Laws.Kinds.{plain_none}
-use Rattle.ticket.proofs.Laws.Refusals.{by_setting, refused_number, refused_reading, wrong_length}
 use Rattle.ticket.proofs.Laws.Answers.{after_zero}
-use Rattle.ticket.proofs.Laws.Passes.{passed_of}
-use Rattle.ticket.proofs.Laws.Scans.{after_passed, after_refused}
-use Rattle.files.specs.Rules.{setting_bytes, number_bytes, setting_of, file_check}
+use Rattle.ticket.proofs.Laws.Scans.{after_refused}
+use Rattle.files.specs.Rules.{setting_bytes, setting_of, file_check}
 use Rattle.files.proofs.Laws.Prefixes.{by_start}
 use Rattle.files.proofs.Laws.Checks.{setting_file_refused, after_setting}
-use Rattle.files.specs.Laws.Starts.{longest_challenge, Begins, BuffersRoom, AnswerFor}
+use Rattle.files.specs.Laws.Starts.{longest_challenge}
 use Rattle.files.proofs.Laws.Starts.{challenge_too_long, file_plain, long_ticket}
 
 module _ (s t c : List ℕ) where

@@ -1,21 +1,7 @@
 -- What rests on PassingQuoted, Quotes.
-use Rattle.std.specs.Prelude.{ℕ, ◌≤◌, ◌↔◌, ◌≡◌, refl, leb}
-use Rattle.std.proofs.Math.Decide.{dec_le}
-use Rattle.std.proofs.Common.{arith, ⊎_elim, sym, ap, ◌∙◌, true≢false}
-use borrow.Author.Tests.{le-leb, lt-leb, ne_eqb}
+use Rattle.std.specs.Prelude.{refl}
 use Rattle.ticket.specs.declared.setting.Setting.{Setting}
-use Rattle.ticket.specs.Rules.{Test, test, most_width, scale_and_bound_within, fits_width, setting_number}
-use Rattle.ticket.proofs.Laws.Limits.BiasSmall.{LimitRow, limit_in_table}
-use Rattle.ticket.proofs.Laws.Limits.{limits_of}
-use Rattle.ticket.proofs.Laws.Limits.ClampedSmall.{setting_holds}
-use Rattle.ticket.proofs.Laws.Tests.{Failed, hold_or_failed, holding_number, failed_number, hold_then, failed_before, failed_last}
-use Rattle.ticket.specs.Laws.Widths.{widened}
-use Rattle.ticket.proofs.Laws.Widths.{width_unread}
-use Rattle.ticket.proofs.Laws.Widths.WidenedNumber.{widened_number}
-use Rattle.quote.specs.declared.Quote.{Quote}
-use Rattle.quote.specs.Rules.{smallest_width, quote_limits, quote_tests, figures, no_figures, quote_of}
-use Rattle.quote.proofs.Laws.Widths.{Smallest, NoneFits, smallest_is, none_is, smallest_or_none, LimitsHold, limit_number, tried}
-use Rattle.quote.proofs.Laws.Widths.TriedUnfit.{tried_fits}
+use Rattle.quote.specs.Rules.{quote_of}
 use Rattle.quote.proofs.Laws.Quotes.{QuoteRow, row_of}
 use Rattle.quote.proofs.Laws.Quotes.PassingQuoted.{quote_exactly}
 

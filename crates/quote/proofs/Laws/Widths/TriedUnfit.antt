@@ -1,20 +1,9 @@
 -- What rests on Widths.
-use Prim.Native.Nat.{ℕ, suc, ◌-◌, ◌≤◌, ◌<◌}
-use Rattle.std.proofs.Common.{arith, inl, inr, ⊎_elim, ◌∙◌}
-use Rattle.std.specs.Prelude.{◌⊎◌, ◌≡◌, refl, true, false}
-use Rattle.std.proofs.Math.Path.{ap, subst⁻¹}
-use Rattle.std.proofs.Math.Bool.{not}
-use Rattle.std.proofs.lemmas.Bool.{not-true, not-false}
+use Prim.Native.Nat.{ℕ}
+use Rattle.std.proofs.Common.{arith}
+use Rattle.std.specs.Prelude.{◌≡◌, true, false}
 use Rattle.ticket.specs.declared.setting.Setting.{Setting}
-use Rattle.ticket.specs.Rules.{test, most_width, scale_and_bound_within, fits_width, setting_number}
-use Rattle.ticket.proofs.Laws.First.{true_or_false, first_none, first_is, holds_or_first}
-use Rattle.ticket.proofs.Laws.Limits.BiasSmall.{LimitRow, limit_in_table}
-use Rattle.ticket.proofs.Laws.Limits.BiasSmall.{sizes_row, numbers_row, bias_bound_row, rounding_row}
-use Rattle.ticket.specs.Laws.Tests.{AllHold}
-use Rattle.ticket.proofs.Laws.Tests.{Failed, hold_or_failed, holding_number, failed_number, hold_then, failed_before, failed_last}
-use Rattle.ticket.specs.Laws.Widths.{widened}
-use Rattle.ticket.proofs.Laws.Widths.WidenedNumber.{widened_number}
-use Rattle.quote.specs.Rules.{smallest_width, quote_limits}
+use Rattle.ticket.specs.Rules.{fits_width}
 use Rattle.quote.proofs.Laws.Widths.{fitting, unfit, refused, LimitsHold, Tried, limit_number}
 
 module _ {G : Setting} {v : ℕ} where

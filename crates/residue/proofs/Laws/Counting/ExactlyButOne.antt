@@ -2,12 +2,9 @@
 --
 --   at_most_members   a list of different things that all have P is at most c long
 --   exactly_members   some list of different things that all have P is c long
-use Rattle.std.specs.Prelude.{◌≡◌, ℕ, zero, suc, ◌+◌, ◌-◌, ◌*◌, ◌/◌, ◌%◌, ◌^◌, ◌<◌, ◌≤◌, min, List, [], ◌∷◌, length, ◌≢◌, slice_index_or}
-use Rattle.std.proofs.Math.Nat.{pow-zero, pow-suc, div-add-mod'}
-use Rattle.std.proofs.Common.{mod-lt, div-lt_iff_lt-mul, arith, sym, ◌∙◌, subst}
-use Rattle.std.proofs.Math.Arith.{digits_lt, digits_div, digits_mod}
-use Rattle.std.proofs.Math.Path.{refl, ap}
-use Rattle.residue.proofs.Laws.Modulo.{factor_positive}
+use Rattle.std.specs.Prelude.{◌≡◌, ℕ, ◌-◌, ◌^◌, ◌<◌, ◌≤◌, List, length, ◌≢◌, slice_index_or}
+use Rattle.std.proofs.Common.{arith, sym, ◌∙◌, subst}
+use Rattle.std.proofs.Math.Path.{ap}
 use Rattle.residue.proofs.Laws.Counting.{AtMost, Different, Exactly, Word, at_most_but_one, at_most_through, at_most_words, close_gap, gap_closes, gap_free, gap_within, get_or_listed, length_listed, listed, open_gap, pigeonhole, word_coded, word_has, word_of}
 
 module _ {A : Type 0} {P : A → Type 0} {c : ℕ} (m : AtMost P c) where

@@ -1,8 +1,7 @@
 -- What rests on Modulo.
-use Rattle.std.specs.Prelude.{◌≡◌, ℕ, zero, suc, ◌+◌, ◌-◌, ◌*◌, ◌/◌, ◌%◌, ◌^◌, ◌<◌, ◌≤◌}
-use Rattle.std.proofs.Math.Nat.{add-mul-mod_self_left, div-add-mod, div-eq_of_lt, div-eq_of_lt-le, mod-eq_of_lt, mod-add-mod, mod-eq-sub-mod, pow-zero}
-use Rattle.std.proofs.Common.{mul_comm, pow-suc, zero-mul, suc-mul, mul-zero, sym, ap, ◌∙◌, pow-add}
-use Rattle.std.proofs.Math.Decide.{dec_lt}
+use Rattle.std.specs.Prelude.{◌≡◌, ℕ, ◌+◌, ◌-◌, ◌/◌, ◌%◌, ◌^◌, ◌<◌, ◌≤◌}
+use Rattle.std.proofs.Math.Nat.{div-eq_of_lt-le, mod-eq_of_lt}
+use Rattle.std.proofs.Common.{◌∙◌}
 use native.Mathlib.Omega.{arith}
 use Rattle.residue.specs.Laws.Modulo.{carried_sum}
 use Rattle.residue.proofs.Laws.Modulo.{mod_once}

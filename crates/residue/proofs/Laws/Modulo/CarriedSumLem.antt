@@ -1,9 +1,9 @@
 -- What rests on CarriedHigh, Modulo.
 --
 --   carried_sum_lem        it is the sum modulo p, where that and s are in the lower half; p is odd and has at most 31 bits
-use Rattle.std.specs.Prelude.{◌≡◌, ℕ, zero, suc, ◌+◌, ◌-◌, ◌*◌, ◌/◌, ◌%◌, ◌^◌, ◌<◌, ◌≤◌}
-use Rattle.std.proofs.Math.Nat.{add-mul-mod_self_left, div-add-mod, div-eq_of_lt, div-eq_of_lt-le, mod-eq_of_lt, mod-add-mod, mod-eq-sub-mod, pow-zero}
-use Rattle.std.proofs.Common.{mul_comm, pow-suc, zero-mul, suc-mul, mul-zero, sym, ap, ◌∙◌, pow-add}
+use Rattle.std.specs.Prelude.{◌≡◌, ℕ, ◌+◌, ◌/◌, ◌%◌, ◌^◌, ◌<◌, ◌≤◌}
+use Rattle.std.proofs.Math.Nat.{mod-eq_of_lt}
+use Rattle.std.proofs.Common.{sym, ◌∙◌}
 use Rattle.std.proofs.Math.Decide.{dec_lt}
 use native.Mathlib.Omega.{arith}
 use Rattle.residue.specs.Laws.Modulo.{carried_sum}

@@ -4,10 +4,10 @@
 --   modulus_positive   it is above 0
 --   modulus_odd        it is odd
 --   partner_moduli     the same argument serves the two other moduli that partners compute with
-use Rattle.std.specs.Prelude.{◌≡◌, ℕ, ◌+◌, ◌-◌, ◌*◌, ◌%◌, ◌^◌, ◌<◌, T, nat_lt, refl}
-use Rattle.std.proofs.Common.{arith, lit<}
+use Rattle.std.specs.Prelude.{◌≡◌, ◌%◌, ◌<◌}
+use Rattle.std.proofs.Common.{arith}
 use Rattle.residue.specs.Rules.{modulus, Prime}
-use Rattle.residue.proofs.Laws.Primes.{undivided, prime_of_test, prime_positive, prime_odd}
+use Rattle.residue.proofs.Laws.Primes.{undivided, prime_positive, prime_odd}
 use Rattle.residue.proofs.Laws.Modulus.{modulus_above, prime_by_trial}
 
 pub modulus_prime : Prime modulus

@@ -2,15 +2,12 @@
 --
 --   residue_same           two integers have the same least residue exactly when p divides their difference
 --   residue_close          integers less than p apart with the same least residue are equal
-use Rattle.std.specs.Prelude.{◌≡◌, ℕ, suc, ◌+◌, ◌-◌, ◌*◌, ◌/◌, ◌%◌, ◌<◌, ◌≤◌, ◌↔◌, ℤ, pos, negsuc, ◌+ℤ◌, ◌-ℤ◌, ◌*ℤ◌, unsigned_abs}
-use Rattle.std.proofs.Common.{suc-mul, eq-zero-or-pos, lt_of_not-le, arith, sym, ◌∙◌, ⊎_elim, le-leb}
-use Rattle.std.proofs.Math.Nat.{mod-lt, mod-eq_of_lt, mod_self, div-add-mod, zero-mod}
-use Rattle.std.proofs.Math.Decide.{dec_le}
+use Rattle.std.specs.Prelude.{◌≡◌, ℕ, suc, ◌%◌, ◌<◌, ◌↔◌, ℤ, pos, negsuc, ◌-ℤ◌, unsigned_abs}
+use Rattle.std.proofs.Common.{arith, sym, ◌∙◌}
+use Rattle.std.proofs.Math.Nat.{mod-lt, mod-eq_of_lt}
 use Rattle.std.proofs.Math.Path.{refl, ap}
-use Rattle.std.proofs.lemmas.Bool.{lt-leb}
-use Rattle.residue.specs.Rules.{least_residue, signed_entry}
-use Rattle.residue.proofs.Laws.Modulo.{mod_of_multiples}
-use Rattle.residue.proofs.Laws.Integers.{positive, negative, equal_of_parts, parts_sum, parts_difference, parts_product}
+use Rattle.residue.specs.Rules.{least_residue}
+use Rattle.residue.proofs.Laws.Integers.{positive, negative, equal_of_parts, parts_difference, parts_product}
 use Rattle.residue.proofs.Laws.Residues.{Divides, complement_zero, residue_shift, residue_zero}
 use Rattle.residue.proofs.Laws.Residues.ResidueDifference.{residue_difference, whole}
 

@@ -1,13 +1,10 @@
 -- What rests on Residues.
-use Rattle.std.specs.Prelude.{◌≡◌, ℕ, suc, ◌+◌, ◌-◌, ◌*◌, ◌/◌, ◌%◌, ◌<◌, ◌≤◌, ◌↔◌, ℤ, pos, negsuc, ◌+ℤ◌, ◌-ℤ◌, ◌*ℤ◌, unsigned_abs}
-use Rattle.std.proofs.Common.{suc-mul, eq-zero-or-pos, lt_of_not-le, arith, sym, ◌∙◌, ⊎_elim, le-leb}
-use Rattle.std.proofs.Math.Nat.{mod-lt, mod-eq_of_lt, mod_self, div-add-mod, zero-mod}
-use Rattle.std.proofs.Math.Decide.{dec_le}
-use Rattle.std.proofs.Math.Path.{refl, ap}
-use Rattle.std.proofs.lemmas.Bool.{lt-leb}
-use Rattle.residue.specs.Rules.{least_residue, signed_entry}
-use Rattle.residue.proofs.Laws.Modulo.{mod_of_multiples}
-use Rattle.residue.proofs.Laws.Integers.{positive, negative, equal_of_parts, parts_sum, parts_difference, parts_product}
+use Rattle.std.specs.Prelude.{◌≡◌, ℕ, ◌+◌, ◌-◌, ◌%◌, ◌<◌, ℤ, ◌-ℤ◌}
+use Rattle.std.proofs.Common.{arith, ◌∙◌}
+use Rattle.std.proofs.Math.Nat.{mod_self}
+use Rattle.std.proofs.Math.Path.{ap}
+use Rattle.residue.specs.Rules.{least_residue}
+use Rattle.residue.proofs.Laws.Integers.{positive, negative, parts_difference}
 use Rattle.residue.proofs.Laws.Residues.{quotient, residue_below, residue_by, residue_differs}
 
 module _ (p : ℕ) (above : 0 < p) where

@@ -3,20 +3,18 @@
 --   lifted_fits      the sum fits, where k is from 2^31 to 2^62
 --   lifted_natural   it is then not negative, and fits as an unsigned number
 --   lifted_residue   its least residue is that of z, where k is a multiple of p
-use Rattle.std.specs.Prelude.{◌≡◌, ℕ, suc, ◌+◌, ◌-◌, ◌*◌, ◌^◌, ◌<◌, ◌≤◌, T, ℤ, pos, negsuc, ◌+ℤ◌, FitsSigned, nat_le, unsigned_abs}
+use Rattle.std.specs.Prelude.{◌≡◌, ℕ, ◌+◌, ◌-◌, ◌*◌, ◌^◌, ◌<◌, ◌≤◌, T, ℤ, pos, ◌+ℤ◌, FitsSigned, unsigned_abs}
 use Rattle.std.proofs.Common.{arith, ap, ◌∙◌, to_z-of_z}
 use Rattle.std.proofs.Math.Path.{subst⁻¹}
-use Rattle.std.specs.Int.Signed.{mag, non_neg}
-use Rattle.std.specs.Int.{Width, w16, w32, w64}
-use mir.Val.{Fits, to_z, of_z, hbits}
-use Rattle.std.proofs.Math.Facts.{sfits_widen}
+use Rattle.std.specs.Int.Signed.{non_neg}
+use Rattle.std.specs.Int.{w32, w64}
+use mir.Val.{Fits}
 use Rattle.residue.specs.Rules.{least_residue}
 use Rattle.residue.proofs.Laws.Integers.{positive, negative, equal_of_parts, parts_sum}
 use Rattle.residue.proofs.Laws.Residues.{residue_shift}
 use Rattle.residue.proofs.Laws.Signed.{lifted, parts_mag, wide_sum, widened_is}
 
 module _ (z : ℤ) (fits : FitsSigned w32 z) where
-
   module _ (k : ℕ) (low : 2 ^ 31 ≤ k) (high : k ≤ 2 ^ 62) where
     sum_is : wide_sum z k ≡ pos (positive z + k - negative z)
     sum_is =

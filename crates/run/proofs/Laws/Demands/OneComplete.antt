@@ -3,17 +3,14 @@
 --   drawn_complete_few  with a false ticket, of the lists drawn from a set of allowed numbers, at most as many are such as may be accepted
 --   complete_few        with a false ticket at most (p^(n - 1) - 1)^s different lists are such, of any one count s
 --   one_complete        of two lists that differ only in a column in which the ticket is false, not both are
-use Rattle.std.specs.Prelude.{ℕ, ◌-◌, ◌^◌, ◌≤◌, ◌<◌, ◌≡◌, List, [], length, get_or}
-use Rattle.std.proofs.Common.{sym, ap, ◌∙◌, inr}
+use Rattle.std.specs.Prelude.{ℕ, ◌-◌, ◌^◌, ◌≤◌, ◌<◌, List, [], length, get_or}
 use Rattle.residue.specs.Rules.{modulus}
 use Rattle.residue.proofs.Laws.Counting.{Different}
 use Rattle.ticket.specs.declared.published.PlainSetting.{PlainSetting}
 use Rattle.ticket.specs.Rules.{Passes, FalseIn, plain}
-use Rattle.challenge.specs.Rules.{Accepted, DifferIn}
+use Rattle.challenge.specs.Rules.{DifferIn}
 use Rattle.soundness.proofs.Laws.DrawnLists.{Allowed, DrawnFrom, list_count, drawn_accepted_few}
 use Rattle.soundness.proofs.Laws.Demands.AcceptedExactlyWellFormed.{one_accepted, accepted_few}
-use Rattle.run.specs.Rules.{held_list, complete, Action, ran}
-use Rattle.run.proofs.Laws.Runs.CompleteNumber.{run_ends, complete_number}
 use Rattle.run.proofs.Laws.Demands.{Completes, completes_accepted}
 
 pub drawn_complete_few : (set : List ℕ) → Allowed set → (P : PlainSetting) (t : List ℕ) → Passes (plain P) t → (j : ℕ) → FalseIn (plain P) t j

@@ -5,26 +5,23 @@
 --   run_list           the final list is that of the beginning with the vectors that were added; it is well formed, and s is its count (S3)
 --   run_under_way      while a run is under way its numbers are those of the rows done, all of which are balanced (S3)
 --   run_stops          after as many steps as the rows of the final list's vectors the run is caught or complete (S4)
-use Rattle.std.specs.Prelude.{ℕ, ◌+◌, ◌*◌, ◌≤◌, ◌<◌, ◌≡◌, refl, Bool, true, false, cond, ◌||◌, List, [], ◌∷◌, ◌++◌, ◌⊎◌, eqb}
+use Rattle.std.specs.Prelude.{ℕ, ◌+◌, ◌*◌, ◌≤◌, ◌≡◌, refl, true, List, [], ◌∷◌, ◌++◌, eqb}
 use Rattle.std.proofs.Math.Decide.{ℕ_discrete}
-use Rattle.std.proofs.Common.{arith, sym, ap, ◌∙◌, true≢false, append_assoc, append-nil, inl, inr}
+use Rattle.std.proofs.Common.{arith, sym, ap, ◌∙◌, true≢false, append_assoc, append-nil, inr}
 use Rattle.std.proofs.Math.Logic.{⊎_elim}
-use borrow.Author.Tests.{eq-eqb, ne_eqb, lt-leb}
+use borrow.Author.Tests.{eq-eqb, ne_eqb}
 use Rattle.std.proofs.Math.Arith.{digits_lt}
 use Rattle.ticket.specs.declared.published.PlainSetting.{PlainSetting}
 use Rattle.ticket.specs.declared.Answer.{Answer}
-use Rattle.ticket.specs.Rules.{answer, unless, plain, reading}
-use Rattle.ticket.proofs.Laws.Answers.{after_zero}
+use Rattle.ticket.specs.Rules.{unless, plain}
 use Rattle.ticket.proofs.Laws.First.{true_or_false}
-use Rattle.challenge.specs.Rules.{WellFormed, testing, list_reading, balanced, challenge_check, accepted, caught}
-use Rattle.challenge.proofs.Laws.Lists.{well_formed_is}
-use Rattle.soundness.proofs.Laws.Answers.AnswerInTable.{accepted_exactly, caught_exactly}
+use Rattle.challenge.specs.Rules.{testing}
 use Rattle.run.specs.declared.Run.{Run}
 use Rattle.run.specs.declared.RunAnswer.{RunAnswer}
-use Rattle.run.specs.Rules.{layer, held_list, is_past, is_caught, is_finished, products_done, under_way, caught_mark, complete, refused, marked, standing, zeros, begun, beginning, worked, stepping, with_vectors, lengthened, addition_reading, adding, Action, step, add, acting, last_answer, ran, steps, added}
-use Rattle.run.proofs.Laws.Additions.{addition_passed, addition_sizes, unfinished_open}
-use Rattle.run.proofs.Laws.Kept.{Kept, kept_begun, kept_worked, kept_lengthened, held_begun, held_lengthened}
-use Rattle.run.proofs.Laws.States.{unfinished, not_past, standing_past, standing_caught, standing_under, tested_refused, tested_passed, worked_is, worked_same, worked_count, testing_passed}
+use Rattle.run.specs.Rules.{is_finished, under_way, refused, marked, standing, zeros, beginning, worked, stepping, with_vectors, lengthened, addition_reading, adding, Action, step, add, acting, last_answer, ran, steps, added}
+use Rattle.run.proofs.Laws.Additions.{addition_passed, unfinished_open}
+use Rattle.run.proofs.Laws.Kept.{kept_worked, kept_lengthened, held_lengthened}
+use Rattle.run.proofs.Laws.States.{unfinished, not_past, tested_refused, tested_passed, worked_is, worked_same, worked_count}
 use Rattle.run.proofs.Laws.Runs.{Ended, Final, Reached, UnderWay, begins, begun_tests, formed, from_state, rows_same, standing_ended, standing_mark, stepped, under_way_lem, zeros_refused}
 
 module _ {t : List ℕ} {P : PlainSetting} {y : List ℕ} {k : ℕ} {a : RunAnswer} (reach : Reached t P y k a) where

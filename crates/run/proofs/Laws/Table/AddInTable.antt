@@ -1,26 +1,16 @@
 -- What rests on Table.
 --
 --   begin_in_table, step_in_table, add_in_table   every answer of begin, of a step and of an addition is such a row
-use Rattle.std.specs.Prelude.{ℕ, ◌*◌, ◌≤◌, ◌<◌, ◌≡◌, refl, Bool, true, false, ◌||◌, List, ◌++◌, ◌⊎◌}
+use Rattle.std.specs.Prelude.{ℕ, ◌≡◌, refl, List}
 use Rattle.std.proofs.Math.Decide.{ℕ_discrete}
-use Rattle.std.proofs.Common.{sym, ap, subst, ◌∙◌, inl, inr, ⊎_elim, leb-true}
+use Rattle.std.proofs.Common.{subst}
 use Rattle.ticket.specs.declared.published.PlainSetting.{PlainSetting}
-use Rattle.ticket.specs.declared.setting.Setting.{Setting}
 use Rattle.ticket.specs.declared.Answer.{Answer}
-use Rattle.ticket.specs.Rules.{answer, refusal, unless, after, reading, plain, setting_number}
-use Rattle.ticket.proofs.Laws.First.{true_or_false}
-use Rattle.ticket.proofs.Laws.Limits.BiasSmall.{SettingRow}
-use Rattle.ticket.proofs.Laws.Limits.SettingInTable.{setting_in_table}
-use Rattle.ticket.proofs.Laws.Refusals.{ReadingRow, passed_or_refused, passed_reading, refused_reading}
-use Rattle.ticket.proofs.Laws.Refusals.RefusedInTable.{refused_in_table}
-use Rattle.ticket.proofs.Laws.Scans.{after_passed, after_refused}
-use Rattle.ticket.proofs.Laws.Tests.{hold_or_failed, holding_number, failed_number}
-use Rattle.challenge.specs.Rules.{testing, list_reading, challenge_products, caught_products}
-use Rattle.challenge.proofs.Laws.Lists.{ListAnswer, other_count, large_number, zero_at, formed, list_answered}
+use Rattle.ticket.specs.Rules.{plain}
+use Rattle.challenge.specs.Rules.{testing}
 use Rattle.run.specs.declared.Run.{Run}
-use Rattle.run.specs.declared.RunAnswer.{RunAnswer}
-use Rattle.run.specs.Rules.{layer, held_list, is_past, is_caught, products_done, under_way, caught_mark, complete, refused, marked, standing, tested, zeros, begun, beginning, stepping, one_more, lengthened, is_open, addition_reading, adding}
-use Rattle.run.proofs.Laws.States.{not_past, standing_past, standing_caught, standing_under, tested_refused, tested_passed}
+use Rattle.run.specs.Rules.{layer, held_list, standing, tested, zeros, begun, beginning, stepping, lengthened, addition_reading, adding}
+use Rattle.run.proofs.Laws.States.{tested_refused, tested_passed}
 use Rattle.run.proofs.Laws.Table.{refused_row, state_row, AdditionRow, CallRow, TestsRow, addition_in_table, state_in_table, tests_in_table}
 
 call_in_table : (R S : Run) (Q : Answer → Type 0) (a : Answer) → ((a.number ≡ 0 → ⊥) → Q a) → CallRow R Q (tested R a (standing S))

@@ -6,24 +6,15 @@
 --   accepted_number     an answer with number 0 is that one
 --   caught_exactly      the answer is caught G τ i exactly when row i of vector τ is the first that does not balance
 --   answer_in_table     every answer is a row of the table
-use Rattle.std.specs.Prelude.{ℕ, ◌*◌, ◌≤◌, ◌<◌, ◌≡◌, refl, true, false, ◌↔◌, List, eqb, length, get_or}
-use Rattle.std.proofs.Common.{arith, sym, ◌∙◌, true≢false, ⊎_elim}
+use Rattle.std.specs.Prelude.{ℕ, ◌≡◌, refl, ◌↔◌, List}
+use Rattle.std.proofs.Common.{sym, ◌∙◌, ⊎_elim}
 use Rattle.std.proofs.Math.Path.{ap}
-use borrow.Author.Tests.{eq-eqb, ne_eqb, eqb-true}
-use Rattle.residue.specs.Rules.{modulus}
 use Rattle.ticket.specs.declared.setting.Setting.{Setting}
 use Rattle.ticket.specs.declared.Answer.{Answer}
-use Rattle.ticket.specs.Rules.{answer, refusal, Passes}
-use Rattle.ticket.proofs.Laws.Answers.{first_past}
-use Rattle.ticket.proofs.Laws.First.{first_is, FirstFailure, holds_or_first}
-use Rattle.ticket.proofs.Laws.Tests.{reading_not_later}
-use Rattle.ticket.proofs.Laws.Scans.{scan_none, scan_is}
-use Rattle.ticket.proofs.Laws.Refusals.{Refused, passed_reading, passed_or_refused, refused_reading, refused_number, ReadingRow}
-use Rattle.ticket.proofs.Laws.Refusals.RefusedInTable.{refused_in_table}
-use Rattle.challenge.specs.Rules.{challenge_products, caught_products, WellFormed, balanced, first_row, accepted, caught, verdict, challenge_check, Accepted}
-use Rattle.challenge.proofs.Laws.Checks.{check_ticket, check_list, check_rows}
-use Rattle.challenge.specs.Laws.Lists.{ZeroVector}
-use Rattle.challenge.proofs.Laws.Lists.{well_formed_is, other_length, first_large, first_zero, ListAnswer, other_count, large_number, zero_at, formed, list_answered}
+use Rattle.ticket.specs.Rules.{refusal}
+use Rattle.ticket.proofs.Laws.Refusals.{passed_reading, passed_or_refused}
+use Rattle.challenge.specs.Rules.{accepted, caught, challenge_check, Accepted}
+use Rattle.challenge.proofs.Laws.Lists.{list_answered}
 use Rattle.soundness.proofs.Laws.Answers.{first_unbalanced, refused, all_balanced, Answered, Balances, Caught, TableRow, answer_of, answered_list, condition_of, row_of}
 
 module _ (G : Setting) (t x : List ℕ) where

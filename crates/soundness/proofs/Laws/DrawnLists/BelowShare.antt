@@ -1,30 +1,17 @@
 -- What rests on DrawnAcceptedShare, DrawnLists.
 --
 --   below_few, below_share, below_exactly   the counts of these
-use Rattle.std.specs.Prelude.{ℕ, ◌+◌, ◌-◌, ◌*◌, ◌^◌, ◌≤◌, ◌<◌, ◌≡◌, refl, ◌↔◌, Bool, true, false, cond, List, [], length, get_or}
-use Rattle.std.proofs.Common.{mul-le-mul_right, arith, sym, ap, ◌∙◌}
+use Rattle.std.specs.Prelude.{ℕ, ◌-◌, ◌*◌, ◌^◌, ◌≤◌, ◌<◌, ◌≡◌, refl, List, [], length, get_or}
+use Rattle.std.proofs.Common.{sym, ap, ◌∙◌}
 use Rattle.std.proofs.lemmas.Bool.{false≢true}
-use Rattle.std.proofs.Math.Arith.{digits_lt}
 use Rattle.residue.specs.Rules.{modulus}
-use Rattle.residue.proofs.Laws.Modulus.PartnerModuli.{modulus_prime}
 use Rattle.residue.proofs.Laws.Counting.{Exactly, Different}
-use Rattle.residue.proofs.Laws.Counting.ExactlyButOne.{at_most_members, exactly_through, exactly_members}
-use Rattle.algebra.proofs.Laws.Positions.{by_rows}
-use Rattle.algebra.proofs.Laws.Sets.{contains, range, range_length, range_at}
-use Rattle.algebra.proofs.Laws.Sets.ContainedExactly.{contained_below, contained_exactly}
+use Rattle.residue.proofs.Laws.Counting.ExactlyButOne.{exactly_through}
+use Rattle.algebra.proofs.Laws.Sets.{range, range_length}
 use Rattle.algebra.proofs.Laws.Sets.RangeContains.{range_contains}
-use Rattle.algebra.proofs.Laws.Sets.RangeDifferent.{range_different}
-use Rattle.algebra.proofs.Laws.Drawn.{Drawn, drawn_exactly, drawn_with_zero, drawn_share}
-use Rattle.algebra.proofs.Laws.Soundness.{Passing}
-use Rattle.algebra.proofs.Laws.Soundness.OneColumn.{one_column}
-use Rattle.algebra.proofs.Laws.Soundness.PassingCount.{passing_count}
 use Rattle.ticket.specs.declared.setting.Setting.{Setting}
 use Rattle.ticket.specs.Rules.{Passes, FalseIn}
-use Rattle.challenge.specs.Rules.{challenge_at, WellFormed, Accepted, DifferIn}
-use Rattle.challenge.specs.Laws.Lists.{ZeroVector}
-use Rattle.challenge.proofs.Laws.Lists.{well_formed_is}
-use Rattle.soundness.proofs.Laws.Demands.{accepted_is}
-use Rattle.soundness.proofs.Laws.Demands.FalseWrong.{difference, balanced_is, false_wrong}
+use Rattle.challenge.specs.Rules.{WellFormed, Accepted}
 use Rattle.soundness.proofs.Laws.DrawnLists.{Below, count_with_zero, drawn_accepted_few, drawn_exactly_with, list_count, range_allowed, range_drawn}
 use Rattle.soundness.proofs.Laws.DrawnLists.DrawnAcceptedShare.{drawn_accepted_share}
 

@@ -1,17 +1,14 @@
 -- What rests on SixteenBit.
 --
 --   sixteen_bit_share     these, times 65,536^s, are at most (65,536^n - 1)^s
-use Rattle.std.specs.Prelude.{ℕ, ◌-◌, ◌*◌, ◌^◌, ◌≤◌, ◌<◌, ◌≡◌, List, [], length, get_or}
-use Rattle.std.proofs.Common.{mul-le-mul_left, arith}
-use Rattle.residue.specs.Rules.{modulus}
-use Rattle.residue.proofs.Laws.Modulus.{modulus_above, modulus_below}
+use Rattle.std.specs.Prelude.{ℕ, ◌-◌, ◌*◌, ◌^◌, ◌≤◌, ◌<◌, List, [], length, get_or}
+use Rattle.std.proofs.Common.{arith}
 use Rattle.residue.proofs.Laws.Counting.{Different}
-use Rattle.residue.proofs.Laws.Counting.ExactlyButOne.{at_most_members, exactly_members}
 use Rattle.ticket.specs.declared.setting.Setting.{Setting}
 use Rattle.ticket.specs.Rules.{Passes, FalseIn}
-use Rattle.challenge.specs.Rules.{WellFormed, Accepted}
+use Rattle.challenge.specs.Rules.{Accepted}
 use Rattle.soundness.proofs.Laws.DrawnLists.{Below}
-use Rattle.soundness.proofs.Laws.DrawnLists.BelowShare.{below_few, below_share, below_exactly}
+use Rattle.soundness.proofs.Laws.DrawnLists.BelowShare.{below_share}
 use Rattle.soundness.proofs.Laws.SixteenBit.{below_p}
 
 module _ (G : Setting) (t : List ℕ) (passes : Passes G t) (j : ℕ) (column : FalseIn G t j) (xs : List (List ℕ)) (different : Different [] xs)

@@ -6,42 +6,35 @@
 --   LiftedRow G t i y, row_lifted           y holds row i of them
 --   entries_a, entries_b  the entries of A and of B as 16-bit numbers
 --   values_b, values_bias   the values of the records of B, and of the bias
-use Rattle.std.specs.Prelude.{◌≡◌, ℕ, suc, ◌+◌, ◌-◌, ◌*◌, ◌/◌, ◌%◌, ◌^◌, ◌<◌, ◌≤◌, true, false, List, length, ℤ, pos, negsuc, ◌+ℤ◌, ◌-ℤ◌, ◌*ℤ◌, FitsSigned, slice_index, slice_index_or, unsigned_abs}
-use Rattle.std.proofs.Math.Decide.{dec_le}
-use Rattle.std.proofs.Common.{mod-lt, arith, ◌∙◌, ⊎_elim, lit<}
+use Rattle.std.specs.Prelude.{◌≡◌, ℕ, ◌+◌, ◌*◌, ◌^◌, ◌<◌, ◌≤◌, true, false, List, length, ℤ, pos, ◌+ℤ◌, ◌-ℤ◌, slice_index, slice_index_or, unsigned_abs}
+use Rattle.std.proofs.Common.{mod-lt, arith, ◌∙◌, ⊎_elim}
 use Rattle.std.proofs.Math.Nat.{mod-eq_of_lt, mul-le-mul_left, mul-le-mul_right}
 use Rattle.std.proofs.Math.Path.{sym, ap}
 use Rattle.std.proofs.Math.Arith.{digits_lt}
-use Rattle.std.specs.Int.{w16}
 use Rattle.residue.specs.Rules.{modulus, least_residue, signed_entry}
-use Rattle.residue.proofs.Laws.Integers.{positive, negative, difference_of_naturals, equal_of_parts, parts_sum, parts_difference, parts_product, parts_within}
+use Rattle.residue.proofs.Laws.Integers.{equal_of_parts, parts_sum, parts_difference}
 use Rattle.residue.specs.Laws.Modulo.{carried_sum}
 use Rattle.residue.proofs.Laws.Modulo.CarriedSumLem.{carried_sum_lem}
-use Rattle.residue.proofs.Laws.Modulo.{carried_low}
-use Rattle.residue.proofs.Laws.Modulo.CarriedHigh.{carried_high}
-use Rattle.residue.proofs.Laws.Modulus.PartnerModuli.{modulus_positive, modulus_odd}
+use Rattle.residue.proofs.Laws.Modulus.PartnerModuli.{modulus_odd}
 use Rattle.residue.proofs.Laws.Modulus.{modulus_above, modulus_below}
-use Rattle.residue.proofs.Laws.Residues.{entry_low, entry_high, entry_small, residue_of_natural, residue_of_residue, residue_shift, residue_sum}
-use Rattle.algebra.specs.Laws.Fills.{Filled, line_at}
-use Rattle.algebra.proofs.Laws.Fills.{part_of, part_long}
-use Rattle.algebra.proofs.Laws.Positions.{by_rows, row_inside}
+use Rattle.residue.proofs.Laws.Residues.{residue_sum}
+use Rattle.algebra.specs.Laws.Fills.{line_at}
+use Rattle.algebra.proofs.Laws.Positions.{by_rows}
 use Rattle.ticket.specs.declared.setting.Setting.{Setting}
-use Rattle.ticket.specs.Rules.{half_range, parts, part, part_size, of_a, of_b, of_bias, of_quotients, of_remainders, bias_columns, record_bytes, byte_at, value_at, value_in, shifted_quotient, entry_a, entry_b, entry_bias, quotient, remainder, claim, has_bias}
+use Rattle.ticket.specs.Rules.{half_range, parts, part, part_size, of_a, of_b, of_bias, of_quotients, of_remainders, bias_columns, record_bytes, value_at, value_in, shifted_quotient, entry_a, entry_b, entry_bias, quotient, remainder, claim, has_bias}
 use Rattle.ticket.proofs.Laws.First.{true_or_false}
-use Rattle.ticket.specs.Laws.Limits.{lift, clamped}
+use Rattle.ticket.specs.Laws.Limits.{clamped}
 use Rattle.ticket.proofs.Laws.Limits.{with_bias_lem, without_bias, half_small, clamped_same}
 use Rattle.ticket.specs.Laws.Layout.{part_bytes}
-use Rattle.ticket.proofs.Laws.Layout.{part_bytes_long, value_of_part, value_in_lem}
 use Rattle.ticket.specs.Laws.Passes.{Passed}
 use Rattle.ticket.proofs.Laws.Passes.{valid}
 use Rattle.ticket.proofs.Laws.Differences.{bias_entry, no_bias_entry}
 use Rattle.ticket.proofs.Laws.Differences.TicketDecided.{residue_bias, size_entry_a, size_entry_b, shifted_below, remainder_below, residue_entry_b}
 use Rattle.ticket.specs.Laws.Lifts.{Lifted}
-use Rattle.ticket.specs.Laws.Decodes.{narrow_shift, narrowed, ShiftedList, NarrowList, LiftedList, negated_word, LessList, ShiftedEntries, ShiftedRow, LiftedRow, LiftedClaims}
+use Rattle.ticket.specs.Laws.Decodes.{narrow_shift, narrowed, ShiftedList, NarrowList, LiftedList, LessList, ShiftedEntries, ShiftedRow, LiftedRow, LiftedClaims}
 use Rattle.ticket.proofs.Laws.Decodes.{C, SumClaims, bound_small, decodable, k, lifted, lifted_at_lem, lifted_in, lifted_parts, narrow_entry, negated_word_lem, row_lifted_at, row_shifted_at, shifted_at_lem, shifted_entry, shifted_most, word}
 
 module _ {G : Setting} {t : List ℕ} (passed : Passed G t) where
-
   module _ (i k : ℕ) (l : i < G.rows) (m : k < G.inner) {x : ℕ} (x-is : x ≡ carried_sum modulus (value_in G t of_a i k) G.bound) where
     entry_shifted : pos x ≡ entry_a G t i k +ℤ pos G.bound
     unfolding parts part entry_a
@@ -53,7 +46,6 @@ module _ {G : Setting} {t : List ℕ} (passed : Passed G t) where
     entry_narrow = omega (arith, shifted_most G.bound (entry_a G t i k) entry_shifted (size_entry_a passed i k l m), passed.numbers.bound)
 
   module _ {a before b : List ℕ} (b-is : b ≡ part_bytes (clamped G) t of_a) where
-
     module _ (room : G.rows * G.inner ≤ length before) (filled : ShiftedList b G.bound before a) where
       pub entries_shifted : ShiftedEntries G t a
       entries_shifted =
@@ -87,7 +79,6 @@ module _ {G : Setting} {t : List ℕ} (passed : Passed G t) where
 
   module _ {y before q r : List ℕ} {half : ℕ} (q-is : q ≡ part_bytes (clamped G) t of_quotients) (r-is : r ≡ part_bytes (clamped G) t of_remainders)
       (half_is : half ≡ half_range (clamped G)) where
-
     module _ (room : G.rows * G.columns ≤ length before) (filled : LiftedList q r half G.scale before y) where
       pub claims_lifted : LiftedClaims G t y
       claims_lifted =
@@ -139,7 +130,6 @@ module _ {G : Setting} {t : List ℕ} (passed : Passed G t) where
       (d.0, λ i j l m. d.1 i j l m ∙ sym (residue_bias passed i j l m))
 
   module _ {d y y' : List ℕ} (d-is : d ≡ part_bytes (clamped G) t of_bias) (claims : LiftedClaims G t y') (less : LessList d y' y) where
-
     module _ (i j : ℕ) (l : i < G.rows) (m : j < G.columns) where
       -- where there is a bias, its entry is taken off
       less_bias : has_bias G ≡ true → slice_index y (k passed d-is claims less i j l m) ≡ least_residue (2 ^ 32) ((C passed d-is claims less i j l m) -ℤ entry_bias G t i j)

@@ -2,32 +2,19 @@
 --
 --   size_due                   so is what a claim is compared with
 --   claims_close               a claim and what it is compared with are less than p apart
-use Rattle.std.specs.Prelude.{◌≡◌, ℕ, ◌+◌, ◌*◌, ◌/◌, ◌%◌, ◌^◌, ◌<◌, ◌≤◌, true, false, ◌⊎◌, ◌↔◌, List, ℤ, pos, negsuc, ◌+ℤ◌, ◌-ℤ◌, ◌*ℤ◌, unsigned_abs, refl}
-use Rattle.std.proofs.Math.Nat.{div-add-mod}
-use Rattle.std.proofs.Common.{mul-le-mul_left, sym, ap, ◌∙◌, inl, inr}
+use Rattle.std.specs.Prelude.{ℕ, ◌*◌, ◌<◌, ◌≤◌, List, pos, ◌+ℤ◌, ◌-ℤ◌, ◌*ℤ◌, unsigned_abs}
+use Rattle.std.proofs.Common.{mul-le-mul_left}
 use native.Mathlib.Omega.{arith}
-use Rattle.std.proofs.Math.Logic.{⊎_elim}
-use borrow.Author.Tests.{leb-true, ltb-true}
-use Rattle.std.proofs.Math.IntN.{ℤ_discrete, +ℤ-neg_ℤ_cancel, -ℤ-+ℤ_cancel}
-use Rattle.residue.specs.Rules.{modulus, least_residue, signed_entry}
-use Rattle.residue.proofs.Laws.Integers.{positive, negative, parts_difference}
-use Rattle.residue.proofs.Laws.Residues.{residue_of_entry, residue_of_residue, residue_shift}
-use Rattle.residue.proofs.Laws.Modulus.PartnerModuli.{modulus_positive}
-use Rattle.algebra.specs.Rules.{matrix_product}
+use Rattle.residue.specs.Rules.{modulus}
 use Rattle.algebra.proofs.Laws.IntegerSums.{size_sum, size_difference, size_product}
-use Rattle.algebra.proofs.Laws.MatrixProducts.{size_matrix_product}
 use Rattle.ticket.specs.declared.setting.Setting.{Setting}
-use Rattle.ticket.specs.Rules.{reach, half_range, is_entry, shifted_quotient, parts, part, of_a, of_b, of_bias, of_quotients, of_remainders, bias_bound, bias_columns, value_in, entry_a, entry_b, entry_bias, quotient, remainder, claim, exact_sum, biased_sum, due, dividend, Untrue, FalseIn, has_bias}
-use Rattle.ticket.proofs.Laws.First.{true_or_false, all_or_first}
-use Rattle.ticket.proofs.Laws.Limits.{half_double, range_double, with_bias_lem}
-use Rattle.ticket.proofs.Laws.Limits.ClampedSmall.{bias_there}
+use Rattle.ticket.specs.Rules.{reach, half_range, entry_a, entry_b, entry_bias, quotient, remainder, claim, due}
+use Rattle.ticket.proofs.Laws.Limits.{range_double}
 use Rattle.ticket.specs.Laws.Passes.{Passed}
-use Rattle.ticket.proofs.Laws.Passes.{Valid, valid}
 use Rattle.ticket.proofs.Laws.Differences.ClaimsTrue.{size_sum_of}
 use Rattle.ticket.proofs.Laws.Differences.TicketDecided.{remainder_below, size_bias, size_entry_a, size_entry_b, size_quotient}
 
 module _ {G : Setting} {t : List ℕ} (passed : Passed G t) where
-
   module _ (i j : ℕ) (l : i < G.rows) (m : j < G.columns) where
     pub size_due : unsigned_abs (due G t i j) ≤ reach G
     size_due =

@@ -7,24 +7,20 @@
 --   residue_entry_a, residue_entry_b, residue_bias, residue_quotient, residue_remainder   a record's value is the least residue of what
 --                              it stands for
 --   ticket_decided             a ticket is false in no column, or in some column (C7)
-use Rattle.std.specs.Prelude.{◌≡◌, ℕ, ◌+◌, ◌*◌, ◌/◌, ◌%◌, ◌^◌, ◌<◌, ◌≤◌, true, false, ◌⊎◌, ◌↔◌, List, ℤ, pos, negsuc, ◌+ℤ◌, ◌-ℤ◌, ◌*ℤ◌, unsigned_abs, refl}
+use Rattle.std.specs.Prelude.{◌≡◌, ℕ, ◌+◌, ◌/◌, ◌%◌, ◌^◌, ◌<◌, ◌≤◌, true, ◌⊎◌, List, pos, unsigned_abs, refl}
 use Rattle.std.proofs.Math.Nat.{div-add-mod}
-use Rattle.std.proofs.Common.{mul-le-mul_left, sym, ap, ◌∙◌, inl, inr}
+use Rattle.std.proofs.Common.{◌∙◌, inl, inr}
 use native.Mathlib.Omega.{arith}
 use Rattle.std.proofs.Math.Logic.{⊎_elim}
 use borrow.Author.Tests.{leb-true, ltb-true}
-use Rattle.std.proofs.Math.IntN.{ℤ_discrete, +ℤ-neg_ℤ_cancel, -ℤ-+ℤ_cancel}
-use Rattle.residue.specs.Rules.{modulus, least_residue, signed_entry}
-use Rattle.residue.proofs.Laws.Integers.{positive, negative, parts_difference}
+use Rattle.residue.specs.Rules.{modulus, least_residue}
+use Rattle.residue.proofs.Laws.Integers.{parts_difference}
 use Rattle.residue.proofs.Laws.Residues.{residue_of_entry, residue_of_residue, residue_shift}
 use Rattle.residue.proofs.Laws.Modulus.PartnerModuli.{modulus_positive}
-use Rattle.algebra.specs.Rules.{matrix_product}
-use Rattle.algebra.proofs.Laws.IntegerSums.{size_sum, size_difference, size_product}
-use Rattle.algebra.proofs.Laws.MatrixProducts.{size_matrix_product}
 use Rattle.ticket.specs.declared.setting.Setting.{Setting}
-use Rattle.ticket.specs.Rules.{reach, half_range, is_entry, shifted_quotient, parts, part, of_a, of_b, of_bias, of_quotients, of_remainders, bias_bound, bias_columns, value_in, entry_a, entry_b, entry_bias, quotient, remainder, claim, exact_sum, biased_sum, due, dividend, Untrue, FalseIn, has_bias}
+use Rattle.ticket.specs.Rules.{half_range, is_entry, shifted_quotient, parts, part, of_a, of_b, of_bias, of_quotients, of_remainders, bias_bound, bias_columns, value_in, entry_a, entry_b, entry_bias, quotient, remainder, claim, due, Untrue, FalseIn, has_bias}
 use Rattle.ticket.proofs.Laws.First.{true_or_false, all_or_first}
-use Rattle.ticket.proofs.Laws.Limits.{half_double, range_double, with_bias_lem}
+use Rattle.ticket.proofs.Laws.Limits.{half_double, with_bias_lem}
 use Rattle.ticket.proofs.Laws.Limits.ClampedSmall.{bias_there}
 use Rattle.ticket.specs.Laws.Passes.{Passed}
 use Rattle.ticket.proofs.Laws.Passes.{Valid, valid}

@@ -3,19 +3,15 @@
 --   LimitRow G c, limit_in_table   c is a number of the published table for the limits of a setting, and so is that of a test that fails
 --   SettingRow G c, setting_in_table   likewise for all tests of a setting
 --   bias_small             and so is twice the bound of its bias
-use Rattle.std.specs.Prelude.{◌≡◌, ℕ, suc, ◌+◌, ◌-◌, ◌*◌, ◌^◌, ◌<◌, ◌≤◌, Bool, true, false, ◌&&◌, refl}
-use Rattle.std.proofs.Common.{le_trans, mul-le-mul, pow-suc, arith, sym, ap, subst, ◌∙◌, true≢false, inl, inr, ⊎_elim, pow_mono}
-use Rattle.std.proofs.Math.Nat.{min-eq_left, min-le_right}
-use Rattle.std.proofs.Math.Bool.{and-eq-true_iff}
-use borrow.Author.Tests.{leb-true, ltb-true, le-leb, lt-ltb, le-ltb}
+use Rattle.std.specs.Prelude.{◌≡◌, ℕ, ◌*◌, ◌<◌, Bool, true}
+use Rattle.std.proofs.Common.{arith, sym, ◌∙◌, true≢false, ⊎_elim}
+use borrow.Author.Tests.{le-leb}
 use Rattle.residue.specs.Rules.{modulus}
 use Rattle.ticket.specs.declared.setting.Setting.{Setting}
-use Rattle.ticket.specs.Rules.{test, first_failed, within, most_rows, most_inner, most_columns, most_scale, most_bound, most_width, most_bias_bound, bias_within, reach, half_range, sizes_within, scale_and_bound_within, numbers_within, fits_width, fits, limit_tests, setting_tests, setting_number, has_bias, bias_bound, bias_columns}
+use Rattle.ticket.specs.Rules.{most_bias_bound, bias_within, limit_tests, has_bias, bias_bound}
 use Rattle.ticket.proofs.Laws.First.{true_or_false}
-use Rattle.ticket.specs.Laws.Tests.{AllHold}
-use Rattle.ticket.proofs.Laws.Tests.{Failed, here, later, first_holds, rest_hold, Numbered, failed_split}
-use Rattle.ticket.proofs.Laws.Tests.TestsHold.{tests_hold}
-use Rattle.ticket.specs.Laws.Limits.{Sizes, Numbers, Fitted, Counts, Within, lift, clamped, number_by, Clamped}
+use Rattle.ticket.proofs.Laws.Tests.{Failed, here, later}
+use Rattle.ticket.specs.Laws.Limits.{Numbers, Fitted}
 use Rattle.ticket.proofs.Laws.Limits.{range_double, without_bias}
 
 -- only a setting with a bias has the number 17

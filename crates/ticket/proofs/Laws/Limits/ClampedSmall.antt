@@ -5,19 +5,15 @@
 --   bias_columns_most      the bias has at most as many columns as the claims
 --   Counts G, counts       how many records the parts have at most, numbers a challenge list, and products all sums
 --   Clamped G, clamped_small   the width and the scale of a clamped setting are not large, nor are products of its numbers
-use Rattle.std.specs.Prelude.{◌≡◌, ℕ, suc, ◌+◌, ◌-◌, ◌*◌, ◌^◌, ◌<◌, ◌≤◌, Bool, true, false, ◌&&◌, refl}
-use Rattle.std.proofs.Common.{le_trans, mul-le-mul, pow-suc, arith, sym, ap, subst, ◌∙◌, true≢false, inl, inr, ⊎_elim, pow_mono}
-use Rattle.std.proofs.Math.Nat.{min-eq_left, min-le_right}
-use Rattle.std.proofs.Math.Bool.{and-eq-true_iff}
-use borrow.Author.Tests.{leb-true, ltb-true, le-leb, lt-ltb, le-ltb}
-use Rattle.residue.specs.Rules.{modulus}
+use Rattle.std.specs.Prelude.{◌≡◌, ℕ, ◌<◌, ◌≤◌, true}
+use Rattle.std.proofs.Common.{le_trans, mul-le-mul, arith, ⊎_elim}
+use Rattle.std.proofs.Math.Nat.{min-le_right}
 use Rattle.ticket.specs.declared.setting.Setting.{Setting}
-use Rattle.ticket.specs.Rules.{test, first_failed, within, most_rows, most_inner, most_columns, most_scale, most_bound, most_width, most_bias_bound, bias_within, reach, half_range, sizes_within, scale_and_bound_within, numbers_within, fits_width, fits, limit_tests, setting_tests, setting_number, has_bias, bias_bound, bias_columns}
+use Rattle.ticket.specs.Rules.{most_rows, most_inner, most_columns, most_scale, most_width, setting_tests, setting_number, has_bias, bias_columns}
 use Rattle.ticket.proofs.Laws.First.{true_or_false}
 use Rattle.ticket.specs.Laws.Tests.{AllHold}
-use Rattle.ticket.proofs.Laws.Tests.{Failed, here, later, first_holds, rest_hold, Numbered, failed_split}
 use Rattle.ticket.proofs.Laws.Tests.TestsHold.{tests_hold}
-use Rattle.ticket.specs.Laws.Limits.{Sizes, Numbers, Fitted, Counts, Within, lift, clamped, number_by, Clamped}
+use Rattle.ticket.specs.Laws.Limits.{Sizes, Counts, clamped, Clamped}
 use Rattle.ticket.proofs.Laws.Limits.{setting_numbered, with_bias_lem, without_bias}
 
 module _ (G : Setting) where

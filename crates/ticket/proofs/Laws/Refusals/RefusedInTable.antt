@@ -3,22 +3,14 @@
 --   reading_zero_exactly   reading answers 0 exactly when all tests pass
 --   refusal_exactly        reading refuses with a number and a place exactly under their condition
 --   refused_in_table       every refusal is one
-use Rattle.std.specs.Prelude.{◌≡◌, ℕ, ◌+◌, ◌<◌, ◌≤◌, ◌⊎◌, ◌↔◌, List, length, ◌≢◌}
-use Rattle.std.proofs.Math.Decide.{ℕ_discrete}
-use Rattle.std.proofs.Common.{arith, sym, ◌∙◌, inl, inr, ⊎_elim, eq-eqb, ne_eqb}
+use Rattle.std.specs.Prelude.{◌≡◌, ℕ, ◌↔◌, List, ◌≢◌}
+use Rattle.std.proofs.Common.{arith, sym, ◌∙◌, ⊎_elim}
 use Rattle.std.proofs.Math.Path.{ap}
 use Rattle.ticket.specs.declared.setting.Setting.{Setting}
-use Rattle.ticket.specs.declared.Answer.{Answer}
-use Rattle.ticket.specs.Rules.{refusal, setting_tests, setting_number, parts, part, part_size, start, records, ticket_length, record_tests, record_number, first_refusal, after, records_reading, reading}
-use Rattle.ticket.specs.Laws.Tests.{AllHold}
-use Rattle.ticket.proofs.Laws.Tests.{Failed, Numbered, here, later, hold_or_failed, holding_number, failed_number, ReadingNumber, failed_numbered}
-use Rattle.ticket.proofs.Laws.Tests.TestsHold.{tests_hold}
-use Rattle.ticket.proofs.Laws.Limits.{setting_numbered}
-use Rattle.ticket.proofs.Laws.Limits.BiasSmall.{SettingRow}
+use Rattle.ticket.specs.Rules.{refusal, records, reading}
 use Rattle.ticket.proofs.Laws.Limits.SettingInTable.{setting_in_table}
-use Rattle.ticket.proofs.Laws.Layout.{each_part, located_at, located_tests, tests_located}
-use Rattle.ticket.proofs.Laws.Scans.{refusal_none, refusal_is, zeros_or_first, after_passed, after_refused}
-use Rattle.ticket.proofs.Laws.Refusals.{by_setting, by_length, by_record, by_setting_row, length_row, record_row, PassedTo, ReadingRow, Refused, passed_or_refused, passed_reading, record_in_table, refused_number, refused_reading}
+use Rattle.ticket.proofs.Laws.Layout.{located_at, tests_located}
+use Rattle.ticket.proofs.Laws.Refusals.{by_setting, by_length, by_record, by_setting_row, length_row, PassedTo, ReadingRow, Refused, passed_or_refused, passed_reading, record_in_table, refused_number, refused_reading}
 
 module _ (G : Setting) (t : List ℕ) where
   pub reading_zero_exactly : (reading G t ≡ refusal 0 0) ↔ PassedTo G t (records G)

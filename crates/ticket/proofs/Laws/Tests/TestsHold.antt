@@ -1,13 +1,10 @@
 -- What rests on Tests.
 --
 --   tests_hold         all hold, where the number is 0 and that of no test is
-use Rattle.std.specs.Prelude.{◌≡◌, ℕ, ◌<◌, ◌≤◌, true, false, ◌⊎◌, List, [], ◌∷◌, ◌++◌, nat_le, nat_lt, refl}
-use Rattle.std.proofs.Math.Decide.{dec_le}
-use Rattle.std.proofs.Common.{arith, inl, inr, ⊎_elim, sym, ◌∙◌, le-leb, lt-ltb, le-ltb}
-use Rattle.std.proofs.lemmas.Bool.{lt-leb}
+use Rattle.std.specs.Prelude.{◌≡◌, List}
+use Rattle.std.proofs.Common.{arith, ⊎_elim}
 use Rattle.ticket.specs.Rules.{Test, first_failed}
-use Rattle.ticket.proofs.Laws.First.{true_or_false}
-use Rattle.ticket.specs.Laws.Tests.{AllHold, none, one}
+use Rattle.ticket.specs.Laws.Tests.{AllHold}
 use Rattle.ticket.proofs.Laws.Tests.{Numbered, failed_number, failed_numbered, hold_or_failed}
 
 pub tests_hold : (l : List Test) → Numbered l → first_failed l ≡ 0 → AllHold l

@@ -1,13 +1,11 @@
 -- What rests on Widths.
 --
 --   widened_number       with a width within its limits, the number is by the limits of all else, and the fit
-use Rattle.std.specs.Prelude.{◌≡◌, ℕ, ◌*◌, ◌^◌, ◌≤◌, false, [], ◌∷◌, ◌++◌, refl}
-use Rattle.std.proofs.Common.{arith, le-leb, le-ltb}
-use Rattle.std.proofs.Math.Bool.{and-true, and-false}
-use Rattle.residue.specs.Rules.{modulus}
-use Rattle.residue.proofs.Laws.Modulus.{modulus_below}
+use Rattle.std.specs.Prelude.{◌≡◌, ℕ, ◌≤◌, [], ◌∷◌, ◌++◌}
+use Rattle.std.proofs.Common.{le-leb}
+use Rattle.std.proofs.Math.Bool.{and-true}
 use Rattle.ticket.specs.declared.setting.Setting.{Setting}
-use Rattle.ticket.specs.Rules.{test, first_failed, most_width, sizes_within, scale_and_bound_within, numbers_within, bias_within, rounding_within, fits_width, limit_tests, setting_tests, setting_number, sum_products, has_bias, bias_bound, bias_columns, parts, count, records, ticket_length}
+use Rattle.ticket.specs.Rules.{test, first_failed, most_width, scale_and_bound_within, numbers_within, fits_width, limit_tests, setting_tests, setting_number}
 use Rattle.ticket.specs.Laws.Widths.{widened}
 use Rattle.ticket.proofs.Laws.Widths.{width_unread}
 

@@ -1,37 +1,22 @@
 -- What rests on Rows.
-use Rattle.std.specs.Prelude.{◌≡◌, ℕ, ◌+◌, ◌-◌, ◌*◌, ◌^◌, ◌<◌, ◌≤◌, true, List, length, get_or, take, drop, ℤ, pos, slice_index, slice_index_or}
-use Rattle.std.proofs.Common.{mul-le-mul_left, mul-le-mul_right, arith, sym, ◌∙◌, ⊎_elim}
+use Rattle.std.specs.Prelude.{◌≡◌, ℕ, ◌+◌, ◌<◌, List, length, ℤ, slice_index}
+use Rattle.std.proofs.Common.{arith, sym, ◌∙◌}
 use Rattle.std.proofs.Math.Path.{ap}
-use Rattle.std.proofs.Math.Arith.{digits_lt, digits_div, digits_mod}
 use Rattle.residue.specs.Rules.{modulus, least_residue}
-use Rattle.algebra.specs.Rules.{word, matrix_product}
-use Rattle.algebra.specs.Laws.Fills.{Filled}
-use Rattle.algebra.proofs.Laws.Fills.{part_of}
-use Rattle.algebra.proofs.Laws.Positions.{row_inside}
-use Rattle.exact.specs.Laws.Matrices.{turned_number, RowSums}
-use Rattle.exact.proofs.Laws.Matrices.{row_sums_exact}
+use Rattle.algebra.specs.Rules.{word}
 use Rattle.ticket.specs.declared.setting.Setting.{Setting}
-use Rattle.ticket.specs.Rules.{most_rows, most_inner, most_columns, start, of_quotients, of_remainders, bias_columns, has_bias}
-use Rattle.ticket.proofs.Laws.Differences.{biased_sum_is}
-use Rattle.ticket.proofs.Laws.Layout.{parts_are, part_quotients, part_remainders}
-use Rattle.ticket.proofs.Laws.Layout.StartOfB.{length_is}
-use Rattle.ticket.specs.Laws.Limits.{clamped}
-use Rattle.ticket.proofs.Laws.Limits.{with_bias_lem, without_bias}
-use Rattle.ticket.proofs.Laws.Limits.ClampedSmall.{counts}
-use Rattle.ticket.proofs.Laws.First.{true_or_false}
-use Rattle.residue.proofs.Laws.Residues.{residue_sum}
-use Rattle.writer.specs.Rules.{entry_of, sum_for, quotient_of, remainder_of}
-use Rattle.writer.specs.Laws.Answers.{Writable}
+use Rattle.ticket.proofs.Laws.Layout.{part_quotients, part_remainders}
+use Rattle.writer.specs.Rules.{sum_for, quotient_of, remainder_of}
 use Rattle.writer.specs.Laws.Claims.{Claimed}
-use Rattle.writer.proofs.Laws.Claims.{lifting_of, quotient_true, remainder_true}
-use Rattle.writer.proofs.Laws.Entries.{limits, long_a, long_b, long_c, no_bias, size_sum_for}
+use Rattle.writer.proofs.Laws.Claims.{quotient_true, remainder_true}
+use Rattle.writer.proofs.Laws.Entries.{limits, size_sum_for}
 use Rattle.writer.proofs.Laws.Lines.{words_named}
-use Rattle.writer.specs.Laws.Operands.{column_of, BiasReady, biased_word}
+use Rattle.writer.specs.Laws.Operands.{biased_word}
 use Rattle.writer.specs.Laws.Records.{words_of}
 use Rattle.writer.proofs.Laws.Records.{integer_quotient, integer_remainder}
 use Rattle.writer.specs.Laws.Writes.{Wrote, Among}
-use Rattle.writer.proofs.Laws.Writes.{wrote_none, wrote_as, wrote_both, both_on}
-use Rattle.writer.specs.Laws.Rows.{RowReady, RowOf, RowTo, RowWrote, Room, RowsReady, ClaimsWrote}
+use Rattle.writer.proofs.Laws.Writes.{wrote_as, wrote_both, both_on}
+use Rattle.writer.specs.Laws.Rows.{RowReady, RowTo}
 use Rattle.writer.proofs.Laws.Rows.{row_sum}
 
 module _ {G : Setting} {C : List ℤ} {row from : ℕ} {sums : List ℕ} {quotients remainders : ℕ} where
