@@ -6,7 +6,8 @@ use Rattle.ticket.proofs.Laws.Scans.{after_first, after_second}
 use Rattle.challenge.proofs.read_list.Goals as goal
 
 pub returns-then-number-ne0 : goal.returns-then-number-ne0
-returns-then-number-ne0 c = let numbered : c.number_of-number.result ≡ setting_number c.args.setting = c.number_of-number.ensures ∙ number_by_lem _ c.half.ensures in
+returns-then-number-ne0 c =
+    let numbered : c.number_of-number.result ≡ setting_number c.args.setting = c.number_of-number.ensures ∙ number_by_lem _ c.half.ensures in
     after_first (ap (λ n. refusal n 0) (numbered)) _ c.if-number-ne0.true
 
 pub read_list-requires : goal.read_list-requires

@@ -23,7 +23,8 @@ pub record Unread (G : Setting) (v : ℕ) : Type 0 where
   pub products : sum_products (widened G v) ≡ sum_products G
 
 pub width_unread : (G : Setting) (v : ℕ) → Unread G v
-unfolding sizes_within scale_and_bound_within bias_within rounding_within fits_width limit_tests has_bias bias_bound bias_columns parts count records ticket_length
+unfolding sizes_within scale_and_bound_within bias_within rounding_within fits_width limit_tests
+    has_bias bias_bound bias_columns parts count records ticket_length
 width_unread G v = record { limits = refl; numbers = refl; fit = refl; bytes = refl; bias_columns_lem = refl; products = refl }
 
 pub largest_width_unfit : (G : Setting) → 2 ≤ G.scale → fits_width G most_width ≡ false

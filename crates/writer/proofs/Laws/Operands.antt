@@ -102,7 +102,8 @@ beyond_both bound number A B =
     ∙ ap (λ n. first_refusal n (length B) (beyond_number bound number B)) (omega arith))
 
 -- the absolute value of an entry, as it is read
-pub size_read : (x : List ℤ) (k : ℕ) {size : ℕ} → mag (slice_index_or x k (pos 0)) < 2 ^ 31 → size ≡ unsigned_abs (to_z w32 (of_z w32 (slice_index_or x k (pos 0))))
+pub size_read : (x : List ℤ) (k : ℕ) {size : ℕ} → mag (slice_index_or x k (pos 0)) < 2 ^ 31 → size
+    ≡ unsigned_abs (to_z w32 (of_z w32 (slice_index_or x k (pos 0))))
     → size ≡ unsigned_abs (slice_index_or x k (pos 0))
 size_read x k fits e = e ∙ ap unsigned_abs (to_z-of_z {w = w32} {z = slice_index_or x k (pos 0)} (record { sfits = fits }))
 

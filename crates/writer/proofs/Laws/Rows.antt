@@ -43,7 +43,8 @@ use Rattle.writer.proofs.Laws.Writes.{wrote_none, wrote_as, wrote_both, both_on}
 use Rattle.writer.specs.Laws.Rows.{RowReady, RowOf, RowTo, RowWrote, Room, RowsReady, ClaimsWrote}
 pub mod RowClaim
 
-bias_entry : {G : Setting} {A B C : List ℤ} → Writable G A B C → (row j : ℕ) → slice_index_or C (row * G.columns + j) (pos 0) ≡ entry_of (bias_columns G) C row j
+bias_entry : {G : Setting} {A B C : List ℤ} → Writable G A B C → (row j : ℕ) → slice_index_or C (row * G.columns + j) (pos 0)
+    ≡ entry_of (bias_columns G) C row j
 bias_entry {G} {C = C} w row j =
     ⊎_elim (λ e. ap (λ n. get_or C (row * n + j) (pos 0)) (sym (with_bias_lem G e).1))
     (λ e. no_bias w e (row * G.columns + j) ∙ sym (no_bias w e (row * bias_columns G + j)))

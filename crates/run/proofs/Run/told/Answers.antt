@@ -22,7 +22,8 @@ returns-then-is_past c =
 pub overflow_add-self : goal.overflow_add-self
 overflow_add-self c =
     let inside : is_past c.args.self ≡ false = sym c.is_past.ensures ∙ c.if-is_past.false in
-    let ready : let self = c.args.self in DoneReady self.setting self.vector self.row × DoneReady self.setting self.vector (self.row + 1) = let sizes = c.requires c.if-read-ne0.false in
+    let ready : let self = c.args.self in DoneReady self.setting self.vector self.row × DoneReady self.setting self.vector (self.row + 1) =
+            let sizes = c.requires c.if-read-ne0.false in
     let there = not_past c.args.self (inside) in (
       record { sizes = sizes; vectors = omega arith; rows = omega arith },
       record { sizes = sizes; vectors = omega arith; rows = omega arith },
@@ -32,7 +33,8 @@ overflow_add-self c =
 pub products_done-requires-then-self-gt0 : goal.products_done-requires-then-self-gt0
 products_done-requires-then-self-gt0 c =
     let inside : is_past c.args.self ≡ false = sym c.is_past.ensures ∙ c.if-is_past.false in
-    let ready : let self = c.args.self in DoneReady self.setting self.vector self.row × DoneReady self.setting self.vector (self.row + 1) = let sizes = c.requires c.if-read-ne0.false in
+    let ready : let self = c.args.self in DoneReady self.setting self.vector self.row × DoneReady self.setting self.vector (self.row + 1) =
+            let sizes = c.requires c.if-read-ne0.false in
     let there = not_past c.args.self (inside) in (
       record { sizes = sizes; vectors = omega arith; rows = omega arith },
       record { sizes = sizes; vectors = omega arith; rows = omega arith },
@@ -51,7 +53,8 @@ returns-then-self-gt0 c =
 pub products_done-requires-2 : goal.products_done-requires-2
 products_done-requires-2 c =
     let inside : is_past c.args.self ≡ false = sym c.is_past.ensures ∙ c.if-is_past.false in
-    let ready : let self = c.args.self in DoneReady self.setting self.vector self.row × DoneReady self.setting self.vector (self.row + 1) = let sizes = c.requires c.if-read-ne0.false in
+    let ready : let self = c.args.self in DoneReady self.setting self.vector self.row × DoneReady self.setting self.vector (self.row + 1) =
+            let sizes = c.requires c.if-read-ne0.false in
     let there = not_past c.args.self (inside) in (
       record { sizes = sizes; vectors = omega arith; rows = omega arith },
       record { sizes = sizes; vectors = omega arith; rows = omega arith },
