@@ -27,7 +27,7 @@ pub overflow_mul-result-3 : goal.overflow_mul-result-3
 overflow_mul-result-3 c =
     let few : Counts c.args.setting = counts c.requires.sizes in
     let all : challenge_products c.args.setting ≤ most_vectors * (most_inner * most_columns + most_rows * (2 * most_columns + most_inner)) =
-            let G = c.args.setting in
+    let G = c.args.setting in
     let one : vector_products G ≤ most_inner * most_columns + most_rows * (2 * most_columns + most_inner) = omega (arith, few) in
     mul-le-mul c.requires.sizes.vectors.1 one in
     rw c.bias_columns.ensures (omega (arith, all))

@@ -22,7 +22,7 @@ returns-then-number-eq0 c =
     let number : setting_number (widened c.args.setting c.loop-width.width) ≡ c.number_of-number.result = let made = c.with_width-tried.ensures in
     ap setting_number (sym made) ∙ sym (c.number_of-number.ensures ∙ number_by_lem _ c.half.ensures) in
     let said : Tried c.args.setting c.loop-width.width c.number_of-number.result =
-            rw (number) at (tried c.args.setting c.loop-width.width c.loop-width.invariant.0 (omega arith)) in
+    rw (number) at (tried c.args.setting c.loop-width.width c.loop-width.invariant.0 (omega arith)) in
     let loop = c.loop-width in
     let fits = tried_fits (said) c.if-number-eq0.true in
     c.figures.ensures
@@ -35,7 +35,7 @@ returns-then-number-ne-UNFIT c =
     let number : setting_number (widened c.args.setting c.loop-width.width) ≡ c.number_of-number.result = let made = c.with_width-tried.ensures in
     ap setting_number (sym made) ∙ sym (c.number_of-number.ensures ∙ number_by_lem _ c.half.ensures) in
     let said : Tried c.args.setting c.loop-width.width c.number_of-number.result =
-            rw (number) at (tried c.args.setting c.loop-width.width c.loop-width.invariant.0 (omega arith)) in
+    rw (number) at (tried c.args.setting c.loop-width.width c.loop-width.invariant.0 (omega arith)) in
     c.no_figures.ensures ∙ sym (quote_of_lem _ (limit_fails (tried_refused (said) c.if-number-eq0.false c.if-number-ne-UNFIT.true)))
 
 pub loop-width-preserved : goal.loop-width-preserved
@@ -43,7 +43,7 @@ loop-width-preserved c =
     let number : setting_number (widened c.args.setting c.loop-width.width) ≡ c.number_of-number.result = let made = c.with_width-tried.ensures in
     ap setting_number (sym made) ∙ sym (c.number_of-number.ensures ∙ number_by_lem _ c.half.ensures) in
     let said : Tried c.args.setting c.loop-width.width c.number_of-number.result =
-            rw (number) at (tried c.args.setting c.loop-width.width c.loop-width.invariant.0 (omega arith)) in
+    rw (number) at (tried c.args.setting c.loop-width.width c.loop-width.invariant.0 (omega arith)) in
     (omega arith, omega arith, below_more _ _ c.loop-width.invariant.2 (λ one. tried_unfit (said) c.if-number-ne-UNFIT.false))
 
 pub returns : goal.returns

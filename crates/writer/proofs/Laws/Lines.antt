@@ -57,7 +57,7 @@ module _ {kind width start : ℕ} {operand : List ℤ} {before : List ℕ} where
   module _ {output after : List ℕ} where
     pub operand_record : {k row column header value : ℕ} → Position width k row column → k < length operand → kind < 256 → row < 256 → column < 256
         → header ≡ word kind 0 row column → value ≡ least_residue modulus (slice_index_or operand k (pos 0))
-            → OperandTo kind width start operand k before output
+        → OperandTo kind width start operand k before output
         → Wrote (λ n. words_of header value) (Among (start + k) 1) output after → OperandTo kind width start operand (k + 1) before after
     operand_record {k} {row} {column} at l small-kind small_row_lem small-column header_is value_is so_far one G A B C w height of =
         let place : start + row * width + column ≡ start + k = omega (arith, at.place) in

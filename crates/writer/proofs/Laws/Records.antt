@@ -100,7 +100,7 @@ record_read bytes i kind row column small e = record { is = record { byte = at }
 
     value : let v = value_at bytes i in
         (byte_at bytes i 4 ≡ v % 256) × (byte_at bytes i 5 ≡ v / 256 % 256) × (byte_at bytes i 6 ≡ v / 65_536 % 256)
-            × (byte_at bytes i 7 ≡ v / 16_777_216 % 256)
+        × (byte_at bytes i 7 ≡ v / 16_777_216 % 256)
     value = rw (value_is bytes i) (bytes_of_word (small _) (small _) (small _) (small _))
 
     at : (k : ℕ) → k < record_bytes → byte_at bytes i k ≡ slice_index (record_of kind row column (value_at bytes i)) k

@@ -112,5 +112,5 @@ wrote_all {n = n} {before} {after} t wrote all only long is room =
         let same : record_bytes * n + m ≡ record_bytes * k + i = omega arith in
         kept.1.byte i l
         ∙ sym ((rw place at (get_or-append-add t (drop (record_bytes * n) before) m 0)) ∙ get_or-drop (record_bytes * n) before m 0
-            ∙ ap (λ x. slice_index before x) same))
+        ∙ ap (λ x. slice_index before x) same))
         (wrote.each k)

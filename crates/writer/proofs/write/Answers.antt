@@ -33,7 +33,7 @@ returns-then-output-length c =
     let number : setting_number c.args.setting ≡ c.number_of-number.result = sym (c.number_of-number.ensures ∙ number_by_lem _ c.half-half.ensures) in
     let setting : AllHold (setting_tests c.args.setting) = setting_holds _ (number ∙ c.if-number-ne0.false) in
     let passed : let of = c.args in (operands_reading of.setting of.a.now of.b.now of.bias.now).number ≡ 0 =
-            sym (ap (λ a. a.number) c.read-read.ensures) ∙ c.if-read-ne0.false in
+    sym (ap (λ a. a.number) c.read-read.ensures) ∙ c.if-read-ne0.false in
     let writable : let of = c.args in Writable of.setting of.a.now of.b.now of.bias.now = passed_operands _ _ _ _ (setting) (passed) in
     let same : clamped c.args.setting ≡ c.args.setting = let within = limits_of _ (setting) in
     clamped_same within.sizes within.numbers in
@@ -46,7 +46,7 @@ write_ticket-requires c =
     let number : setting_number c.args.setting ≡ c.number_of-number.result = sym (c.number_of-number.ensures ∙ number_by_lem _ c.half-half.ensures) in
     let setting : AllHold (setting_tests c.args.setting) = setting_holds _ (number ∙ c.if-number-ne0.false) in
     let passed : let of = c.args in (operands_reading of.setting of.a.now of.b.now of.bias.now).number ≡ 0 =
-            sym (ap (λ a. a.number) c.read-read.ensures) ∙ c.if-read-ne0.false in
+    sym (ap (λ a. a.number) c.read-read.ensures) ∙ c.if-read-ne0.false in
     let writable : let of = c.args in Writable of.setting of.a.now of.b.now of.bias.now = passed_operands _ _ _ _ (setting) (passed) in
     let same : clamped c.args.setting ≡ c.args.setting = let within = limits_of _ (setting) in
     clamped_same within.sizes within.numbers in
@@ -69,7 +69,7 @@ returns c =
     let number : setting_number c.args.setting ≡ c.number_of-number.result = sym (c.number_of-number.ensures ∙ number_by_lem _ c.half-half.ensures) in
     let setting : AllHold (setting_tests c.args.setting) = setting_holds _ (number ∙ c.if-number-ne0.false) in
     let passed : let of = c.args in (operands_reading of.setting of.a.now of.b.now of.bias.now).number ≡ 0 =
-            sym (ap (λ a. a.number) c.read-read.ensures) ∙ c.if-read-ne0.false in
+    sym (ap (λ a. a.number) c.read-read.ensures) ∙ c.if-read-ne0.false in
     let writable : let of = c.args in Writable of.setting of.a.now of.b.now of.bias.now = passed_operands _ _ _ _ (setting) (passed) in
     let same : clamped c.args.setting ≡ c.args.setting = let within = limits_of _ (setting) in
     clamped_same within.sizes within.numbers in

@@ -18,7 +18,7 @@ unfolding dot_of
 loop-r-preserved c =
     let inside : let of = c.args in record_bytes * (of.start + c.loop-r.r) + record_bytes ≤ length of.records.now = omega (arith, c.requires.long) in
     let term : let of = c.args in terms of.records.now of.start of.vector.now c.loop-r.r ≡ c.value-value.result.0 * get_or of.vector.now c.loop-r.r 0 =
-            let of = c.args in
+    let of = c.args in
     let k = of.start + c.loop-r.r in
     rw (c.value-value.ensures, slice_long of.records.now k (inside), last_word of.records.now k) in
     (omega arith, search (term_more, arith, term))

@@ -12,8 +12,8 @@ check_row-answer-requires c = row_sides c.requires c.bias_columns-width.ensures 
 pub returns-then-answer-ne0 : goal.returns-then-answer-ne0
 returns-then-answer-ne0 c =
     let step : let of = c.args in c.check_row-answer.result
-        ≡ step_answer (row_steps of.setting of.a.now of.w.now of.bias.now of.x.now of.u.now of.t of.products) c.loop-row.row =
-            row_step c.requires c.bias_columns-width.ensures c.loop-row.invariant c.loop-row-test.true
+    ≡ step_answer (row_steps of.setting of.a.now of.w.now of.bias.now of.x.now of.u.now of.t of.products) c.loop-row.row =
+    row_step c.requires c.bias_columns-width.ensures c.loop-row.invariant c.loop-row-test.true
     c.offset-right.ensures c.line.ensures c.line-in-loop-row.ensures c.offset-left.ensures
     c.check_row-answer.ensures in
     search (run_stopped, step)
@@ -21,8 +21,8 @@ returns-then-answer-ne0 c =
 pub loop-row-preserved : goal.loop-row-preserved
 loop-row-preserved c =
     let step : let of = c.args in c.check_row-answer.result
-        ≡ step_answer (row_steps of.setting of.a.now of.w.now of.bias.now of.x.now of.u.now of.t of.products) c.loop-row.row =
-            row_step c.requires c.bias_columns-width.ensures c.loop-row.invariant c.loop-row-test.true
+    ≡ step_answer (row_steps of.setting of.a.now of.w.now of.bias.now of.x.now of.u.now of.t of.products) c.loop-row.row =
+    row_step c.requires c.bias_columns-width.ensures c.loop-row.invariant c.loop-row-test.true
     c.offset-right.ensures c.line.ensures c.line-in-loop-row.ensures c.offset-left.ensures
     c.check_row-answer.ensures in
     search (run_next, step)

@@ -43,7 +43,7 @@ module _ (G : Setting) (A B C : List ℤ) (t : List ℕ) (bytes : (k : ℕ) → 
     same_quotient =
         let h = small_remainder passed i j l m in
         floor_unique (dividend G (sum_for G A B C i j)) (quotient G t i j) G.scale h.0 h.1
-            (rw h.2 at (same_sum G A B C t bytes passed none same_A same-B same-C i j l m))
+        (rw h.2 at (same_sum G A B C t bytes passed none same_A same-B same-C i j l m))
 
     same_remainder : remainder G t i j ≡ remainder_of G A B C i j
     unfolding remainder_of

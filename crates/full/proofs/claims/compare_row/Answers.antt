@@ -5,19 +5,19 @@ use Rattle.full.proofs.claims.compare_row.Goals as goal
 pub overflow_mul-products : goal.overflow_mul-products
 overflow_mul-products c =
     let few : let G = c.args.setting in (c.agreeing-count.result ≤ G.columns) × (G.inner * c.agreeing-count.result ≤ G.inner * G.columns) =
-            few_agree c.row_sums.ensures c.requires c.agreeing-count.ensures in
+    few_agree c.row_sums.ensures c.requires c.agreeing-count.ensures in
     omega (arith, few)
 
 pub overflow_cast-products : goal.overflow_cast-products
 overflow_cast-products c =
     let few : let G = c.args.setting in (c.agreeing-count.result ≤ G.columns) × (G.inner * c.agreeing-count.result ≤ G.inner * G.columns) =
-            few_agree c.row_sums.ensures c.requires c.agreeing-count.ensures in
+    few_agree c.row_sums.ensures c.requires c.agreeing-count.ensures in
     omega (arith, few)
 
 pub overflow_add-products : goal.overflow_add-products
 overflow_add-products c =
     let few : let G = c.args.setting in (c.agreeing-count.result ≤ G.columns) × (G.inner * c.agreeing-count.result ≤ G.inner * G.columns) =
-            few_agree c.row_sums.ensures c.requires c.agreeing-count.ensures in
+    few_agree c.row_sums.ensures c.requires c.agreeing-count.ensures in
     omega (arith, few)
 
 pub returns-then-count-width : goal.returns-then-count-width

@@ -13,13 +13,13 @@ returns-then-read-ne0 c =
 pub lengthened-requires : goal.lengthened-requires
 lengthened-requires c =
     let passed : let args = c.args in Additional args.self args.vector.now =
-            addition_passed _ _ (sym (ap (λ a. a.number) c.read_addition-read.ensures) ∙ c.if-read-ne0.false) in
+    addition_passed _ _ (sym (ap (λ a. a.number) c.read_addition-read.ensures) ∙ c.if-read-ne0.false) in
     passed
 
 pub answered-requires-2 : goal.answered-requires-2
 answered-requires-2 c =
     let passed : let args = c.args in Additional args.self args.vector.now =
-            addition_passed _ _ (sym (ap (λ a. a.number) c.read_addition-read.ensures) ∙ c.if-read-ne0.false) in
+    addition_passed _ _ (sym (ap (λ a. a.number) c.read_addition-read.ensures) ∙ c.if-read-ne0.false) in
     λ z. rw c.lengthened.ensures (lengthened_sizes (passed))
 
 pub returns : goal.returns

@@ -23,7 +23,7 @@ pub overflow_add-self : goal.overflow_add-self
 overflow_add-self c =
     let inside : is_past c.args.self ≡ false = sym c.is_past.ensures ∙ c.if-is_past.false in
     let ready : let self = c.args.self in DoneReady self.setting self.vector self.row × DoneReady self.setting self.vector (self.row + 1) =
-            let sizes = c.requires c.if-read-ne0.false in
+    let sizes = c.requires c.if-read-ne0.false in
     let there = not_past c.args.self (inside) in (
       record { sizes = sizes; vectors = omega arith; rows = omega arith },
       record { sizes = sizes; vectors = omega arith; rows = omega arith },
@@ -34,7 +34,7 @@ pub products_done-requires-then-self-gt0 : goal.products_done-requires-then-self
 products_done-requires-then-self-gt0 c =
     let inside : is_past c.args.self ≡ false = sym c.is_past.ensures ∙ c.if-is_past.false in
     let ready : let self = c.args.self in DoneReady self.setting self.vector self.row × DoneReady self.setting self.vector (self.row + 1) =
-            let sizes = c.requires c.if-read-ne0.false in
+    let sizes = c.requires c.if-read-ne0.false in
     let there = not_past c.args.self (inside) in (
       record { sizes = sizes; vectors = omega arith; rows = omega arith },
       record { sizes = sizes; vectors = omega arith; rows = omega arith },
@@ -54,7 +54,7 @@ pub products_done-requires-2 : goal.products_done-requires-2
 products_done-requires-2 c =
     let inside : is_past c.args.self ≡ false = sym c.is_past.ensures ∙ c.if-is_past.false in
     let ready : let self = c.args.self in DoneReady self.setting self.vector self.row × DoneReady self.setting self.vector (self.row + 1) =
-            let sizes = c.requires c.if-read-ne0.false in
+    let sizes = c.requires c.if-read-ne0.false in
     let there = not_past c.args.self (inside) in (
       record { sizes = sizes; vectors = omega arith; rows = omega arith },
       record { sizes = sizes; vectors = omega arith; rows = omega arith },

@@ -9,15 +9,15 @@ use Rattle.run.proofs.lists.read_vector.Goals as goal
 pub overflow_mul-setting : goal.overflow_mul-setting
 overflow_mul-setting c =
     let fits : let of = c.args.setting in (of.vectors * of.columns ≤ most_numbers) × (of.vectors ≤ most_vectors)
-        × (c.read_list-tested.result.place ≤ most_columns + 1) =
-            place_fits _ c.requires _ c.with_vectors.ensures c.read_list-tested.ensures in
+    × (c.read_list-tested.result.place ≤ most_columns + 1) =
+    place_fits _ c.requires _ c.with_vectors.ensures c.read_list-tested.ensures in
     omega (arith, fits)
 
 pub overflow_add-setting : goal.overflow_add-setting
 overflow_add-setting c =
     let fits : let of = c.args.setting in (of.vectors * of.columns ≤ most_numbers) × (of.vectors ≤ most_vectors)
-        × (c.read_list-tested.result.place ≤ most_columns + 1) =
-            place_fits _ c.requires _ c.with_vectors.ensures c.read_list-tested.ensures in
+    × (c.read_list-tested.result.place ≤ most_columns + 1) =
+    place_fits _ c.requires _ c.with_vectors.ensures c.read_list-tested.ensures in
     omega (arith, fits)
 
 pub returns-then-tested-eq11 : goal.returns-then-tested-eq11
@@ -28,8 +28,8 @@ returns-then-tested-eq11 c =
 pub overflow_add-setting-then-tested-eq21 : goal.overflow_add-setting-then-tested-eq21
 overflow_add-setting-then-tested-eq21 c =
     let fits : let of = c.args.setting in (of.vectors * of.columns ≤ most_numbers) × (of.vectors ≤ most_vectors)
-        × (c.read_list-tested.result.place ≤ most_columns + 1) =
-            place_fits _ c.requires _ c.with_vectors.ensures c.read_list-tested.ensures in
+    × (c.read_list-tested.result.place ≤ most_columns + 1) =
+    place_fits _ c.requires _ c.with_vectors.ensures c.read_list-tested.ensures in
     omega (arith, fits)
 
 pub returns-then-tested-eq21 : goal.returns-then-tested-eq21

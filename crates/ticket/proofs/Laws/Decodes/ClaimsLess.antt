@@ -59,8 +59,11 @@ module _ {G : Setting} {t : List ℕ} (passed : Passed G t) where
         (filled : ShiftedList r G.bound before a) where
       pub row_shifted : ShiftedRow G t i a
       row_shifted =
-          record { entry = λ k m. entry_shifted i k row m ((row_shifted_at passed b-is row r-is room filled) k m); small = λ k m. entry_narrow i k row m
-              ((row_shifted_at passed b-is row r-is room filled) k m) }
+          record {
+            entry = λ k m. entry_shifted i k row m ((row_shifted_at passed b-is row r-is room filled) k m);
+            small = λ k m. entry_narrow i k row m
+                ((row_shifted_at passed b-is row r-is room filled) k m);
+          }
 
   claim_lifted : {half : ℕ} → half ≡ half_range (clamped G) → (i j : ℕ) → i < G.rows → j < G.columns
       → {x : ℕ} → x ≡ (lifted_in passed) half i j → Lifted G (claim G t i j) x
@@ -144,7 +147,7 @@ module _ {G : Setting} {t : List ℕ} (passed : Passed G t) where
           let minus = negated_word_lem v (valid passed of_bias i j l (rw wide m)).below in
           less.each (k passed d-is claims less i j l m) (omega (arith, h.0, ap (λ n. G.rows * n) wide, claims.long, digits_lt l m))
           ∙ rw (value, minus, bias_entry G t i j there, ← (lifted passed d-is claims less i j l m))
-              (sym (residue_sum (2 ^ 32) (word passed d-is claims less i j l m) (C passed d-is claims less i j l m) (pos 0 -ℤ signed_entry modulus v))
+          (sym (residue_sum (2 ^ 32) (word passed d-is claims less i j l m) (C passed d-is claims less i j l m) (pos 0 -ℤ signed_entry modulus v))
           ∙ ap (least_residue (2 ^ 32)) (taken (C passed d-is claims less i j l m) (signed_entry modulus v)))
         where
           taken : (a b : ℤ) → a +ℤ (pos 0 -ℤ b) ≡ a -ℤ b
@@ -161,8 +164,8 @@ module _ {G : Setting} {t : List ℕ} (passed : Passed G t) where
           less.rest (k passed d-is claims less i j l m) (omega (arith, h.0, ap (λ n. G.rows * n) (without_bias G none).1))
           ∙ rw (no_bias_entry G t i j none) (sym (lifted passed d-is claims less i j l m)
           ∙ ap (least_residue (2 ^ 32))
-              (equal_of_parts (C passed d-is claims less i j l m) ((C passed d-is claims less i j l m) -ℤ pos 0)
-              (omega (arith, parts_difference (C passed d-is claims less i j l m) (pos 0)))))
+          (equal_of_parts (C passed d-is claims less i j l m) ((C passed d-is claims less i j l m) -ℤ pos 0)
+          (omega (arith, parts_difference (C passed d-is claims less i j l m) (pos 0)))))
 
     pub claims_less : SumClaims G t y
     claims_less =

@@ -19,7 +19,7 @@ module _ {G : Setting} {t : List ℕ} (passed : Passed G t) where
     pub size_due : unsigned_abs (due G t i j) ≤ reach G
     size_due =
         size_sum_of G (entry_a G t) (entry_b G t) (entry_bias G t) i j (λ k h. (size_entry_a passed) i k l h) (λ k h. (size_entry_b passed) k j h m)
-            (size_bias passed i j l m)
+        (size_bias passed i j l m)
 
     pub claims_close : unsigned_abs (claim G t i j -ℤ due G t i j) < modulus
     unfolding claim remainder

@@ -20,7 +20,7 @@ returns-then-ticket-length c =
     let number : c.number_of-number.result ≡ setting_number c.args.setting = c.number_of-number.ensures ∙ number_by_lem _ c.half-half.ensures in
     let holds : AllHold (setting_tests c.args.setting) = setting_holds c.args.setting (sym (number) ∙ c.if-number-ne0.false) in
     let long : c.length.result ≡ ticket_length c.args.setting =
-            let limits = limits_of _ (holds) in c.length.ensures ∙ ap ticket_length (clamped_same limits.sizes limits.numbers) in
+    let limits = limits_of _ (holds) in c.length.ensures ∙ ap ticket_length (clamped_same limits.sizes limits.numbers) in
     sym (refused_reading _ _ (by_length (holds) (λ e. c.if-ticket-length.true (e ∙ sym (long)))))
 
 pub read_records-requires : goal.read_records-requires
@@ -29,7 +29,7 @@ read_records-requires c =
     let holds : AllHold (setting_tests c.args.setting) = setting_holds c.args.setting (sym (number) ∙ c.if-number-ne0.false) in
     let half : c.half-half.result.0 ≡ half_range (clamped c.args.setting) = c.half-half.ensures in
     let long : c.length.result ≡ ticket_length c.args.setting =
-            let limits = limits_of _ (holds) in c.length.ensures ∙ ap ticket_length (clamped_same limits.sizes limits.numbers) in
+    let limits = limits_of _ (holds) in c.length.ensures ∙ ap ticket_length (clamped_same limits.sizes limits.numbers) in
     let limits = limits_of _ (holds) in (
       record { counts = counts limits.sizes; within = limits; long = c.if-ticket-length.false ∙ long },
       half ∙ ap half_range (clamped_same limits.sizes limits.numbers),
@@ -39,5 +39,5 @@ pub returns : goal.returns
 returns c = let number : c.number_of-number.result ≡ setting_number c.args.setting = c.number_of-number.ensures ∙ number_by_lem _ c.half-half.ensures in
     let holds : AllHold (setting_tests c.args.setting) = setting_holds c.args.setting (sym (number) ∙ c.if-number-ne0.false) in
     let long : c.length.result ≡ ticket_length c.args.setting =
-            let limits = limits_of _ (holds) in c.length.ensures ∙ ap ticket_length (clamped_same limits.sizes limits.numbers) in
+    let limits = limits_of _ (holds) in c.length.ensures ∙ ap ticket_length (clamped_same limits.sizes limits.numbers) in
     c.read_records.ensures ∙ sym (records_read _ _ (holds) (c.if-ticket-length.false ∙ long))

@@ -19,7 +19,7 @@ narrow_columns-requires c =
 pub overflow_add-remainders : goal.overflow_add-remainders
 overflow_add-remainders c =
     let early : let of = c.args in length of.a.now + length of.b.now + length of.bias.now + of.setting.rows * of.setting.columns < 2 ^ 16 =
-            claims_early c.requires.writable in
+    claims_early c.requires.writable in
     omega (arith, early)
 
 pub loop-row-init : goal.loop-row-init
@@ -29,14 +29,14 @@ pub slice_bounds-narrow-end : goal.slice_bounds-narrow-end
 slice_bounds-narrow-end c =
     let more : c.loop-row.row < c.args.setting.rows = c.loop-row-test.true in
     let room : let of = c.args in RowRoom of.setting of.a.now c.loop-row.row c.loop-row.from c.loop-row.line c.loop-row.quotients c.loop-row.remainders =
-            row_room c.requires c.loop-row.invariant.0 (more) in
+    row_room c.requires c.loop-row.invariant.0 (more) in
     omega (arith, room)
 
 pub narrow-requires : goal.narrow-requires
 narrow-requires c =
     let more : c.loop-row.row < c.args.setting.rows = c.loop-row-test.true in
     let room : let of = c.args in RowRoom of.setting of.a.now c.loop-row.row c.loop-row.from c.loop-row.line c.loop-row.quotients c.loop-row.remainders =
-            row_room c.requires c.loop-row.invariant.0 (more) in
+    row_room c.requires c.loop-row.invariant.0 (more) in
     let inside = (room).in_a in
     record { entries = small_part _ _ (search small_a) inside; long = part_long _ _ _ inside ∙ omega arith; inside = omega arith }
 
@@ -49,21 +49,21 @@ pub overflow_add-quotients-in-loop-row : goal.overflow_add-quotients-in-loop-row
 overflow_add-quotients-in-loop-row c =
     let more : c.loop-row.row < c.args.setting.rows = c.loop-row-test.true in
     let room : let of = c.args in RowRoom of.setting of.a.now c.loop-row.row c.loop-row.from c.loop-row.line c.loop-row.quotients c.loop-row.remainders =
-            row_room c.requires c.loop-row.invariant.0 (more) in
+    row_room c.requires c.loop-row.invariant.0 (more) in
     omega (arith, room)
 
 pub overflow_add-remainders-in-loop-row : goal.overflow_add-remainders-in-loop-row
 overflow_add-remainders-in-loop-row c =
     let more : c.loop-row.row < c.args.setting.rows = c.loop-row-test.true in
     let room : let of = c.args in RowRoom of.setting of.a.now c.loop-row.row c.loop-row.from c.loop-row.line c.loop-row.quotients c.loop-row.remainders =
-            row_room c.requires c.loop-row.invariant.0 (more) in
+    row_room c.requires c.loop-row.invariant.0 (more) in
     omega (arith, room)
 
 pub overflow_add-row : goal.overflow_add-row
 overflow_add-row c =
     let more : c.loop-row.row < c.args.setting.rows = c.loop-row-test.true in
     let room : let of = c.args in RowRoom of.setting of.a.now c.loop-row.row c.loop-row.from c.loop-row.line c.loop-row.quotients c.loop-row.remainders =
-            row_room c.requires c.loop-row.invariant.0 (more) in
+    row_room c.requires c.loop-row.invariant.0 (more) in
     omega (arith, room)
 
 pub loop-row-preserved : goal.loop-row-preserved

@@ -10,7 +10,7 @@ returns-then-all_within c =
 pub returns-then-bound-magnitude : goal.returns-then-bound-magnitude
 returns-then-bound-magnitude c =
     let size_is : c.magnitude.result ≡ nat_abs (get_or c.args.operand.now c.loop-k.k (pos 0)) =
-            size_read c.args.operand.now c.loop-k.k c.magnitude-arg-1.given c.magnitude.ensures in
+    size_read c.args.operand.now c.loop-k.k c.magnitude-arg-1.given c.magnitude.ensures in
     sym (beyond_at c.args.bound c.args.number c.args.operand.now c.args.start
     c.requires.1 c.loop-k-test.true
     c.loop-k.invariant.1 (omega (arith, size_is, c.if-bound-magnitude.true)))

@@ -7,9 +7,9 @@ use Rattle.writer.proofs.operands.narrow_columns.Goals as goal
 pub loop-column-preserved : goal.loop-column-preserved
 loop-column-preserved c =
     let room : c.loop-column.start + c.args.height ≤ length c.args.list.now =
-            omega (arith, row_inside c.args.height c.loop-column-test.true, c.loop-column.invariant.1, c.requires.room) in
+    omega (arith, row_inside c.args.height c.loop-column-test.true, c.loop-column.invariant.1, c.requires.room) in
     let long : let height = c.args.height in let at = c.loop-column in length (take (at.start + height - at.start) (drop at.start at.list)) ≡ height =
-            let at = c.loop-column in
+    let at = c.loop-column in
     part_long at.list at.start c.args.height (omega (arith, room, at.invariant.2.long)) in
     let at = c.loop-column in
     let filled = rw (long) at c.narrow.ensures in (

@@ -13,8 +13,8 @@ loop-k-preserved-then-column-width c =
     let small : nat_abs (entry) < 2 ^ 30 = c.requires.entries_small.small c.loop-k.k c.loop-k-test.true in
     let few : let at = c.loop-k in (at.row < 64) × (at.column < 64) = omega (arith, position, c.requires.few, c.requires.wide, c.loop-k-test.true) in
     let wrote : let of = c.args in (length c.write_record.new.output ≡ length of.output.now)
-        × OperandTo of.kind of.width of.start of.operand.now (c.loop-k.k + 1) of.output.now c.write_record.new.output =
-            let value = c.residue-value.ensures ∙ ap (least_residue modulus) (entry_read (entry) (small)) in
+    × OperandTo of.kind of.width of.start of.operand.now (c.loop-k.k + 1) of.output.now c.write_record.new.output =
+    let value = c.residue-value.ensures ∙ ap (least_residue modulus) (entry_read (entry) (small)) in
     let header = c.word-header.ensures in (
       c.write_record.ensures.long ∙ c.loop-k.invariant.2,
       operand_record (position) c.loop-k-test.true c.ranges.kind.fits (omega (arith, few)) (omega (arith, few))
@@ -29,8 +29,8 @@ loop-k-preserved c =
     let small : nat_abs (entry) < 2 ^ 30 = c.requires.entries_small.small c.loop-k.k c.loop-k-test.true in
     let few : let at = c.loop-k in (at.row < 64) × (at.column < 64) = omega (arith, position, c.requires.few, c.requires.wide, c.loop-k-test.true) in
     let wrote : let of = c.args in (length c.write_record.new.output ≡ length of.output.now)
-        × OperandTo of.kind of.width of.start of.operand.now (c.loop-k.k + 1) of.output.now c.write_record.new.output =
-            let value = c.residue-value.ensures ∙ ap (least_residue modulus) (entry_read (entry) (small)) in
+    × OperandTo of.kind of.width of.start of.operand.now (c.loop-k.k + 1) of.output.now c.write_record.new.output =
+    let value = c.residue-value.ensures ∙ ap (least_residue modulus) (entry_read (entry) (small)) in
     let header = c.word-header.ensures in (
       c.write_record.ensures.long ∙ c.loop-k.invariant.2,
       operand_record (position) c.loop-k-test.true c.ranges.kind.fits (omega (arith, few)) (omega (arith, few))

@@ -8,7 +8,7 @@ use Rattle.writer.proofs.records.write_line.Given as goal
 abbrev pub invariant-loop-column : goal.invariant-loop-column
 invariant-loop-column l =
     (l.column ≤ length l.entries) × (l.header ≡ word l.kind 0 l.row l.column)
-        × Wrote (line_record l.kind l.row l.first l.entries) (Among l.first l.column) l.initial.output l.output
+    × Wrote (line_record l.kind l.row l.first l.entries) (Among l.first l.column) l.initial.output l.output
 
 abbrev pub decreases-loop-column : goal.decreases-loop-column
 decreases-loop-column l = length l.entries - l.column

@@ -10,7 +10,7 @@ loop-row-preserved c =
     let room : c.loop-row.first + c.args.width ≤ c.args.height * c.args.width = omega (arith, row_inside c.args.width (more), c.loop-row.invariant.1) in
     let fits : c.loop-row.first + c.args.width ≤ length c.args.operand.now = omega (arith, room, c.requires.count) in
     let long : let at = c.loop-row in length (take (at.first + c.args.width - at.first) (drop at.first c.args.operand.now)) ≡ c.args.width =
-            part_long _ _ _ (fits) in
+    part_long _ _ _ (fits) in
     let at = c.loop-row in
     let left = more in
     let line = rw (long) at c.write_line.ensures in

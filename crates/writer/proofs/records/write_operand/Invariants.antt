@@ -6,7 +6,7 @@ use Rattle.writer.proofs.records.write_operand.Given as goal
 abbrev pub invariant-loop-row : goal.invariant-loop-row
 invariant-loop-row l =
     (l.row ≤ l.height) × (l.first ≡ l.row * l.width) × (length l.output ≡ length l.initial.output)
-        × OperandTo l.kind l.width l.start l.operand l.first l.initial.output l.output
+    × OperandTo l.kind l.width l.start l.operand l.first l.initial.output l.output
 
 abbrev pub decreases-loop-row : goal.decreases-loop-row
 decreases-loop-row l = l.height - l.row
