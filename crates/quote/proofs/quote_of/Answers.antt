@@ -11,6 +11,9 @@ use Rattle.quote.proofs.Laws.Widths.TriedUnfit.{tried_fits, tried_unfit}
 use Rattle.quote.proofs.Laws.Quotes.{quote_of_lem, limit_fails, no_width, smallest_width_lem, figures_unread}
 use Rattle.quote.proofs.quote_of.Goals as goal
 
+pub loop-width-init : goal.loop-width-init
+loop-width-init c = (omega arith, omega arith, λ w l one. absurd (omega arith))
+
 pub figures-requires : goal.figures-requires
 figures-requires c =
     let number : setting_number (widened c.args.setting c.loop-width.width) ≡ c.number_of-number.result = let made = c.with_width-tried.ensures in
