@@ -21,7 +21,7 @@
  * modulo p: an argument of p or more is reduced first. A residue that is handed
  * out is the least one, from 0 to p - 1.
  *
- * Link libdikdumar.a, which `rt staticlib dikdumar` writes to target/staticlib/.
+ * Link libdikdumar.a, which `bash .ci/build` writes to target/staticlib/.
  * It holds the residue calls too, so dikdumar_residue.h and its archive are not
  * needed beside it.
  */

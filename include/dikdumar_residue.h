@@ -6,7 +6,7 @@
  * equal to it modulo p: an argument of p or more is reduced first. A residue
  * that is handed out is the least one, from 0 to p - 1.
  *
- * Link libdikdumar_residue.a, which `rt staticlib dikdumar_residue` writes to
+ * Link libdikdumar_residue.a, which `bash .ci/build` writes to
  * target/staticlib/.
  */
 #ifndef DIKDUMAR_RESIDUE_H
