@@ -92,17 +92,6 @@ overflow_add-remainder c =
     omega (arith, pre.room_quotients, pre.room_remainders, pre.long_sums, pre.few) in
     omega (arith, inside)
 
-pub overflow_add-column : goal.overflow_add-column
-overflow_add-column c =
-    let inside : let of = c.args in let at = c.loop-column in (record_bytes * (of.quotients + at.column) + record_bytes ≤ length at.output)
-    × (record_bytes * (of.remainders + at.column) + record_bytes ≤ length at.output) × (of.quotients + at.column < 2 ^ 61)
-    × (of.remainders + at.column < 2 ^ 61) × (at.column < 32) =
-    let pre = c.requires in
-    let more = c.loop-column-test.true in
-    let long = c.loop-column.invariant.1 in
-    omega (arith, pre.room_quotients, pre.room_remainders, pre.long_sums, pre.few) in
-    omega (arith, inside)
-
 pub loop-column-smaller : goal.loop-column-smaller
 loop-column-smaller c = omega (arith, c.loop-column-test.true)
 
