@@ -57,12 +57,15 @@
 --   dividend G S         what is divided by the scale for the sum S: S + o, with the rounding number o
 --   Untrue G t i j       the claim in row i, column j is untrue
 --   FalseIn G t j        the ticket is false in column j: some row's claim there is untrue
-use Rattle.std.specs.Prelude.{◌≡◌, ℕ, zero, suc, ◌+◌, ◌-◌, ◌*◌, ◌/◌, ◌%◌, ◌^◌, ◌<◌, Bool, false, cond, ◌&&◌, List, [], ◌∷◌, ◌++◌, length, take, ℤ, pos, ◌+ℤ◌, ◌-ℤ◌, ◌*ℤ◌, ◌==◌, nat_eq, nat_le, nat_lt, slice_index, slice_index_or, unsigned_abs}
+use Rattle.std.specs.Prelude.{◌≡◌, ℕ, zero, suc, ◌+◌, ◌-◌, ◌*◌, ◌/◌, ◌%◌, ◌^◌, ◌<◌, Bool, false, cond, ◌&&◌, List, [], ◌∷◌, ◌++◌, length, take, ℤ, pos, ◌+ℤ◌, ◌-ℤ◌, ◌*ℤ◌, ◌==◌, nat_eq, nat_le, nat_lt, slice_index, slice_index_or, unsigned_abs, Result, Ok, Err}
 use Rattle.residue.specs.Rules.{modulus, signed_entry}
 use Rattle.algebra.specs.Rules.{matrix_product, word}
 use Rattle.ticket.specs.declared.setting.Setting.{Setting}
 use Rattle.ticket.specs.declared.published.PlainSetting.{PlainSetting}
 use Rattle.ticket.specs.declared.Answer.{Answer}
+use Rattle.ticket.specs.declared.refusals.Reason.{Reason}
+use Rattle.ticket.specs.declared.refusals.Reason.TheVariants.{Sizes, Numbers, Fit, Length, Form, Residue, Entry, Quotient, Remainder, ListLength, ListNumber, Caught, OperandLength, OperandEntry, Output, Claim, BiasBound, BiasEntry, Rounding, NoWidth, ZeroVector, Addition}
+use Rattle.ticket.specs.declared.refusals.Refusal.{Refusal}
 
 -- answers
 
@@ -78,6 +81,38 @@ answer number place row products = record { number = number; place = place; row 
 
 abbrev pub refusal : ℕ → ℕ → Answer
 refusal number place = answer number place 0 0
+
+abbrev pub reason_number : Reason → ℕ
+reason_number Sizes = 1
+reason_number Numbers = 2
+reason_number Fit = 3
+reason_number Length = 4
+reason_number Form = 5
+reason_number Residue = 6
+reason_number Entry = 7
+reason_number Quotient = 8
+reason_number Remainder = 9
+reason_number ListLength = 10
+reason_number ListNumber = 11
+reason_number Caught = 12
+reason_number OperandLength = 13
+reason_number OperandEntry = 14
+reason_number Output = 15
+reason_number Claim = 16
+reason_number BiasBound = 17
+reason_number BiasEntry = 18
+reason_number Rounding = 19
+reason_number NoWidth = 20
+reason_number ZeroVector = 21
+reason_number Addition = 22
+
+abbrev pub answered : Result Unit Refusal → Answer
+answered (Ok _) = answer 0 0 0 0
+answered (Err R) = refusal (reason_number R.reason) R.place
+
+abbrev pub failed : Result Unit Reason → ℕ
+failed (Ok _) = 0
+failed (Err R) = reason_number R
 
 unfoldable pub scan : ℕ → (ℕ → Bool) → (ℕ → Answer) → Answer → Answer
 scan n holds failed passed =

@@ -6,12 +6,14 @@ mod decode;
 mod parts;
 mod published;
 mod records;
+mod refusals;
 mod setting;
 
 pub use decode::{lifted_claims, narrow_entries, shifted_entries, subtract_entries};
 pub use parts::{RECORD, part, value, word};
 pub use published::{BiasSetting, PlainSetting};
 pub use records::read;
+pub use refusals::{Reason, Refusal};
 pub use setting::{PartNumber, Setting};
 
 // What a call says: a number of the published table (0: nothing is wrong), its place, and for a caught ticket, one that Freivalds'
