@@ -1,12 +1,13 @@
 // The setting: its tests, 1, 2, 17, 19 and 3, and what it says of a ticket. The calls that say this take every setting; of one beyond its
 // limits they say what the limits come to, so that nothing wraps.
 ghost use Rattle.std.specs.Prelude.{◌≡◌, ◌+◌, ◌*◌, min};
-ghost use Rattle.ticket.specs.Rules.{unless, sizes_within, numbers_within, bias_within, rounding_within, within};
+ghost use Rattle.ticket.specs.Rules.{failed, sizes_within, numbers_within, bias_within, rounding_within, within};
 ghost use Rattle.ticket.specs.Rules.{bias_bound, bias_columns, part, part_size, start, ticket_length, half_range, sum_products};
 ghost use Rattle.ticket.specs.Laws.Limits.{Sizes, Numbers, Clamped, clamped, fits_by, number_by};
 ghost use Rattle.ticket.specs.Laws.Vectors.{vectored};
 ghost use Rattle.ticket.specs.Laws.Widths.{widened};
 
+use crate::Reason;
 use crate::parts::RECORD;
 use residue::Residue;
 
@@ -27,7 +28,7 @@ pub struct Setting {
 }
 
 // Which part of a ticket, by its number in the ticket's order.
-#[derive(Clone, Copy)]
+#[derive(Clone, Copy, Debug, PartialEq, Eq)]
 pub struct PartNumber(pub u32);
 
 impl PartNumber {
@@ -66,29 +67,32 @@ impl Setting {
 
     const MOST_BIAS_BOUND: u32 = 32_768 * 32_768;
 
-    // the number of a setting that is within its limits and does not fit
-    pub const UNFIT: u32 = 3;
-
     // the bytes of the longest ticket without a bias, which is that of the largest sizes
     pub const LONGEST_TICKET: usize = RECORD
         * (Setting::MOST_ROWS * Setting::MOST_INNER
             + Setting::MOST_INNER * Setting::MOST_COLUMNS
             + 2 * (Setting::MOST_ROWS * Setting::MOST_COLUMNS)) as usize;
 
-    // The first of the tests 1, 2, 17, 19 and 3 that the setting fails, 0 where it passes them; by half of the quotients' range, which
-    // the caller has worked out.
-    pub fn number_of(self, half: Residue) -> u32
-        ensures { result ≡ number_by self half.0 }
+    // The tests 1, 2, 17, 19 and 3, in order; by half of the quotients' range, which the caller has worked out.
+    pub fn test(self, half: Residue) -> Result<(), Reason>
+        ensures { failed result ≡ number_by self half.0 }
     {
         if !self.sizes_within() {
-            return 1;
+            return Err(Reason::Sizes);
         }
         if !self.numbers_within() {
-            return 2;
+            return Err(Reason::Numbers);
         }
-        let fitting = unless(self.fits(half), Setting::UNFIT, 0);
-        let rounding = unless(self.rounding_within(), 19, fitting);
-        unless(self.bias_within(), 17, rounding)
+        if !self.bias_within() {
+            return Err(Reason::BiasBound);
+        }
+        if !self.rounding_within() {
+            return Err(Reason::Rounding);
+        }
+        if !self.fits(half) {
+            return Err(Reason::Fit);
+        }
+        Ok(())
     }
 
     // The setting with another width.
@@ -283,14 +287,4 @@ fn least(n: u32, most: u32) -> u32
         return most;
     }
     n
-}
-
-// The rest where a test passed, else the number of its refusal.
-pub(crate) fn unless(passed: bool, number: u32, rest: u32) -> u32
-    ensures { result ≡ unless passed number rest }
-{
-    if passed {
-        return rest;
-    }
-    number
 }
