@@ -15,7 +15,7 @@ use Rattle.ticket.specs.declared.Answer.{Answer}
 use Rattle.ticket.specs.declared.refusals.Reason.{Reason}
 use Rattle.ticket.specs.declared.refusals.Reason.TheVariants.{Sizes, Numbers, Fit, Length, Form, Residue, Entry, Quotient, Remainder, ListLength, ListNumber, Caught, OperandLength, OperandEntry, Output, Claim, BiasBound, BiasEntry, Rounding, NoWidth, ZeroVector, Addition}
 use Rattle.ticket.specs.declared.refusals.Refusal.{Refusal}
-use Rattle.ticket.specs.Rules.{first, unless, first_refusal, after, refusal, answered, reason_number}
+use Rattle.ticket.specs.Rules.{first, unless, first_refusal, after, refusal, reason_number}
 use Rattle.ticket.proofs.Laws.First.{first_none, first_before}
 use Rattle.ticket.proofs.Laws.Scans.{refusal_none, refusal_is, zeros_or_first, after_first, after_passed, after_refused, after_second}
 

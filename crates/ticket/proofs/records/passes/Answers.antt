@@ -1,6 +1,4 @@
-use Rattle.std.proofs.Common.{◌≡◌, ◌&&◌, ◌+◌, ◌*◌, false, true, ap, refl, sym, ◌∙◌, zero-mul, mul-le-mul_right, arith}
-use Rattle.ticket.specs.Laws.All.{all}
-use Rattle.ticket.specs.Laws.Passing.{passing}
+use Rattle.std.proofs.Common.{◌≡◌, ◌&&◌, ◌+◌, ◌*◌, true, ap, refl, sym, ◌∙◌, zero-mul, mul-le-mul_right, arith}
 use Rattle.ticket.proofs.Laws.All.{all_none, all_fails}
 use Rattle.ticket.proofs.Laws.Passing.{rows_passing}
 use Rattle.ticket.proofs.records.passes.Goals as goal

@@ -1,11 +1,10 @@
 use Rattle.std.proofs.Common.{◌≡◌, sym, ap, ◌∙◌}
 use Rattle.std.proofs.lemmas.Result.{err_from_is_err_and}
-use Rattle.ticket.specs.Rules.{refusal, half_range, setting_number, setting_tests, ticket_length, reading}
+use Rattle.ticket.specs.Rules.{refusal, half_range, setting_tests, ticket_length, reading}
 use Rattle.ticket.specs.Laws.Tests.{AllHold}
-use Rattle.ticket.specs.Laws.Limits.{clamped}
 use Rattle.ticket.proofs.Laws.Limits.ClampedSmall.{counts, setting_holds}
 use Rattle.ticket.proofs.Laws.Limits.{limits_of, clamped_same, number_by_lem}
-use Rattle.ticket.proofs.Laws.Answers.{after_err, reason_numbered}
+use Rattle.ticket.proofs.Laws.Answers.{after_err}
 use Rattle.ticket.proofs.Laws.Refusals.{by_length, refused_reading, records_read}
 use Rattle.ticket.proofs.records.read.Goals as goal
 

@@ -1,8 +1,8 @@
-use Rattle.std.proofs.Common.{◌≡◌, refl, sym, ◌∙◌, arith}
+use Rattle.std.proofs.Common.{refl, sym, ◌∙◌, arith}
 use Rattle.std.proofs.lemmas.Result.{err_from_is_err_and}
 use Rattle.ticket.specs.Laws.Parts.{PartReady}
 use Rattle.ticket.proofs.Laws.Answers.{reason_numbered}
-use Rattle.ticket.proofs.Laws.Parts.{part_read, part_ready, part_answer_lem, part_end, read_none, read_next, read_refused, read_all}
+use Rattle.ticket.proofs.Laws.Parts.{part_ready, part_answer_lem, part_end, read_none, read_next, read_refused, read_all}
 use Rattle.ticket.proofs.Laws.Layout.{start_none}
 use Rattle.ticket.proofs.records.read_records.Goals as goal
 

@@ -1,4 +1,4 @@
-use Rattle.std.proofs.Common.{◌∙◌, arith}
+use Rattle.std.proofs.Common.{◌∙◌}
 use Rattle.ticket.proofs.Laws.All.{all_none, all_next}
 use Rattle.ticket.proofs.records.row_passes.Goals as goal
 

@@ -1,5 +1,4 @@
-use Rattle.std.proofs.Common.{◌≡◌, true, sym, ◌∙◌}
-use Rattle.ticket.specs.Rules.{sizes_within, numbers_within}
+use Rattle.std.proofs.Common.{sym, ◌∙◌}
 use Rattle.ticket.specs.Laws.Limits.{number_by}
 use Rattle.ticket.proofs.Laws.Limits.{sizes_of, numbers_of}
 use Rattle.ticket.proofs.setting.Setting.test.Goals as goal
