@@ -2,7 +2,8 @@
 // compiler turns into vector instructions.
 #![tactic(auto)]
 
-ghost use Rattle.std.specs.Prelude.{◌≡◌, ◌+◌, ◌≤◌, length};
+ghost use Rattle.std.specs.Prelude.{◌≡◌, ◌+◌, ◌^◌, ◌≤◌, ◌*ℤ◌, length};
+ghost use Rattle.residue.specs.Rules.{least_residue};
 ghost use Rattle.exact.specs.Rules.{dot_product};
 ghost use Rattle.exact.specs.Laws.Products.{Summed};
 
@@ -21,7 +22,7 @@ const HALF: usize = ROW / 2;
 const QUARTER: usize = ROW / 4;
 
 // The sum of the products of two lists, number by number, up to the end of the shorter one, modulo 2^32.
-#[tactic(auto, using(crate::proofs::Laws::Products::summing, crate::proofs::Laws::Products::summed_all))]
+#[tactic(auto, using(crate::proofs::Laws::Products::summed_all))]
 pub fn dot(x: &[i16], y: &[i16]) -> u32
     ensures { result ≡ dot_product x.now y.now }
 {
@@ -29,12 +30,21 @@ pub fn dot(x: &[i16], y: &[i16]) -> u32
     if count < HALF {
         return last(x, y, 0, count, 0);
     }
-    let blocks = count / BLOCK;
+    blocks(x, y, count)
+}
+
+// The same of the first count numbers of both, a block at a time.
+#[tactic(auto, using(crate::proofs::Laws::Products::summing))]
+fn blocks(x: &[i16], y: &[i16], count: usize) -> u32
+    requires { (count ≤ length x.now) × (count ≤ length y.now) }
+    ensures { Summed x.now y.now 0 0 count result }
+{
+    let whole = count / BLOCK;
     let mut sum = 0;
-    for k in 0..blocks {
+    for k in 0..whole {
         sum = block(x, y, k * BLOCK, sum);
     }
-    rest(x, y, blocks * BLOCK, count % BLOCK, sum)
+    rest(x, y, whole * BLOCK, count % BLOCK, sum)
 }
 
 // A sum with a block of products added, from number start of both lists on, modulo 2^32.
@@ -85,8 +95,15 @@ fn products(x: &[i16], y: &[i16], start: usize, count: usize, before: u32) -> u3
 {
     let mut sum = before;
     for k in 0..count {
-        let product = i32::from(x[start + k]) * i32::from(y[start + k]);
-        sum = sum.wrapping_add(product.cast_unsigned());
+        sum = sum.wrapping_add(product(x[start + k], y[start + k]));
     }
     sum
+}
+
+// The product of two numbers, modulo 2^32.
+fn product(x: i16, y: i16) -> u32
+    ensures { result ≡ least_residue (2 ^ 32) (x *ℤ y) }
+{
+    let product = i32::from(x) * i32::from(y);
+    product.cast_unsigned()
 }
