@@ -6,7 +6,7 @@
 --   summed_none       no product is added yet
 --   summed_more       one more product is added
 --   summed_joined     n products are added, and then more
---   summing           these three, with which the check finds the proofs of the functions
+--   summing           the first and the last of these three, with which the check finds the proofs of functions
 --   summed_all        the sum of all products is the rule's
 --   dot_is            the rule for two lists of n numbers f 0, f 1, .. and g 0, g 1, ..
 use Rattle.std.specs.Prelude.{◌≡◌, ℕ, suc, ◌+◌, ◌-◌, ◌*◌, ◌%◌, ◌^◌, ◌<◌, ◌≤◌, min, List, length, ℤ, pos, negsuc, ◌+ℤ◌, ◌*ℤ◌, slice_index_or, unsigned_abs}
@@ -83,7 +83,7 @@ module _ {x y : List ℤ} {before start : ℕ} where
       int_sum_cong n _ _ (λ i l. let same : middle + i ≡ start + (k + i) = omega arith in rw same) in
       record { is = rw (all, int_sum_split k n, ← +ℤ_assoc, ← later) (second.is ∙ residue_with s _ _ first.is) }
 
-pub ruleset summing = (summed_none, summed_more, summed_joined)
+pub ruleset summing = (summed_none, summed_joined)
 
 pub summed_all : {x y : List ℤ} {r : ℕ} → Summed x y 0 0 (min (length x) (length y)) r → r ≡ dot_product x y
 unfolding dot_product product_sum
