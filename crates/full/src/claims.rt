@@ -1,5 +1,5 @@
 // Test 16: every claim, row by row.
-ghost use Rattle.std.specs.Prelude.{◌≡◌, ◌≤◌, length};
+ghost use Rattle.std.specs.Prelude.{◌≡◌, ◌^◌, ◌<◌, ◌≤◌, length};
 ghost use Rattle.ticket.specs.Rules.{first};
 ghost use Rattle.ticket.specs.Laws.All.{all};
 ghost use Rattle.ticket.specs.Laws.Passes.{Passed};
@@ -11,9 +11,9 @@ ghost use Rattle.full.specs.Laws.Claims.{Space};
 use ticket::{Answer, PartNumber, Setting};
 
 // The most entries of an operand, and the most claims; the most sums of a row.
-const ENTRIES: usize = (Setting::MOST_ROWS * Setting::MOST_INNER) as usize;
+const MOST_ENTRIES: usize = (Setting::MOST_ROWS * Setting::MOST_INNER) as usize;
 
-const CLAIMS: usize = (Setting::MOST_ROWS * Setting::MOST_COLUMNS) as usize;
+const MOST_CLAIMS: usize = (Setting::MOST_ROWS * Setting::MOST_COLUMNS) as usize;
 
 const ROW: usize = Setting::MOST_COLUMNS as usize;
 
@@ -30,23 +30,14 @@ pub(crate) fn check_claims(setting: Setting, ticket: &[u8]) -> Answer
         && (setting.size(PartNumber::B) <= small)
         && (setting.size(PartNumber::QUOTIENTS) <= small)
     {
-        return check_small(setting, ticket);
+        return check_in::<SMALL, SMALL>(setting, ticket);
     }
-    check_large(setting, ticket)
+    check_in::<MOST_ENTRIES, MOST_CLAIMS>(setting, ticket)
 }
 
-fn check_small(setting: Setting, ticket: &[u8]) -> Answer
-    requires { Passed setting ticket.now × Space setting 64 64 64 }
-    ensures { result ≡ full_verdict setting ticket.now }
-{
-    let mut rows = [0; SMALL];
-    let mut columns = [0; SMALL];
-    let mut claims = [0; SMALL];
-    decode_and_compare(setting, ticket, &mut rows, &mut columns, &mut claims)
-}
-
-fn check_large(setting: Setting, ticket: &[u8]) -> Answer
-    requires { Passed setting ticket.now }
+// The same in arrays for so many entries of an operand and so many claims.
+fn check_in<const ENTRIES: usize, const CLAIMS: usize>(setting: Setting, ticket: &[u8]) -> Answer
+    requires { Passed setting ticket.now × Space setting ENTRIES ENTRIES CLAIMS × (ENTRIES < 2 ^ 32) × (CLAIMS < 2 ^ 32) }
     ensures { result ≡ full_verdict setting ticket.now }
 {
     let mut rows = [0; ENTRIES];
@@ -157,14 +148,12 @@ fn agreeing(sums: &[u32], claims: &[u32], lift: u32) -> usize
     if all_agree(sums, claims, lift) {
         return sums.len();
     }
-    let mut j = 0;
-    while j < sums.len() {
-        if std::num::wrapping_add_u32(sums[j], lift) != claims[j] {
+    for (j, sum) in sums.iter().enumerate() {
+        if sum.wrapping_add(lift) != claims[j] {
             return j;
         }
-        j += 1;
     }
-    j
+    sums.len()
 }
 
 fn all_agree(sums: &[u32], claims: &[u32], lift: u32) -> bool
@@ -172,10 +161,8 @@ fn all_agree(sums: &[u32], claims: &[u32], lift: u32) -> bool
     ensures { result ≡ all (length sums.now) (claimed_for sums.now claims.now lift) }
 {
     let mut all = true;
-    let mut k = 0;
-    while k < sums.len() {
-        all = all & (std::num::wrapping_add_u32(sums[k], lift) == claims[k]);
-        k += 1;
+    for (k, sum) in sums.iter().enumerate() {
+        all &= sum.wrapping_add(lift) == claims[k];
     }
     all
 }
