@@ -5,8 +5,7 @@
 --                       lifted
 --   lists_hold          so they do for a ticket that passes
 --   lifting_is          the lift that is added to them is the setting's, and has 31 bits
---   sums_ready          its sums can be compared
---   sums_verdict        and their answer is the verdict
+--   sums_verdict        the answer of its sums is the verdict
 --   check_refused, check_passed, check_compared   the whole check, by the answer of reading
 use Rattle.std.specs.Prelude.{◌≡◌, ℕ, ◌+◌, ◌*◌, ◌%◌, ◌^◌, ◌<◌, ◌≤◌, List, length, get_or, ℤ, pos, ◌+ℤ◌, ◌-ℤ◌, ◌≢◌, slice_index_or, unsigned_abs}
 use Rattle.std.proofs.Math.Decide.{ℕ_discrete}
@@ -42,7 +41,7 @@ use Rattle.ticket.specs.Laws.Runs.{steps_answer}
 use Rattle.ticket.proofs.Laws.Scans.{after_passed, after_refused, scan_cong}
 use Rattle.full.specs.Rules.{holds, untrue, full_verdict, full_check}
 use Rattle.full.proofs.Laws.Same.{same_equal, same_other}
-use Rattle.full.specs.Laws.Sums.{line_sum, sum_steps, SumsReady}
+use Rattle.full.specs.Laws.Sums.{line_sum, sum_steps}
 use Rattle.full.specs.Laws.Claims.{Space}
 
 pub record ListsHold (G : Setting) (t : List ℕ) (A B : List ℤ) (claims : List ℕ) : Type 0 where
@@ -89,9 +88,6 @@ module _ {G : Setting} {t : List ℕ} (passed : Passed G t) where
       let is = lift_made passed.counts.sizes passed.numbers passed.fitted half_is made in (is.0, omega (arith, is.1, modulus_below))
 
   module _ {A B : List ℤ} {y : List ℕ} (holding : ListsHold G t A B y) where
-    pub sums_ready : {row lifting : ℕ} → row ≡ G.columns → lifting ≡ lift G → SumsReady G A B y row lifting
-    sums_ready row_is lifting_is = search
-
     -- the test of a sum is that of its claim
     test_alike : (i j : ℕ) → i < G.rows → j < G.columns → (sum_steps G A B y).holds (i * G.columns + j) ≡ holds G t (i * G.columns + j)
     unfolding holds

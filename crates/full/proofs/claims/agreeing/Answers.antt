@@ -1,4 +1,4 @@
-use Rattle.std.proofs.Common.{◌≡◌, sym, ◌∙◌, arith, ne_eqb}
+use Rattle.std.proofs.Common.{sym, ◌∙◌, arith, ne_eqb}
 use Rattle.ticket.proofs.Laws.All.{all_at}
 use Rattle.ticket.proofs.Laws.First.{first_none, first_is}
 use Rattle.full.proofs.claims.agreeing.Goals as goal
