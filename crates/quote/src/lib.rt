@@ -27,8 +27,7 @@ pub struct Quote {
 pub fn quote_of(setting: Setting) -> Quote
     ensures { result ≡ quote_of setting }
 {
-    let mut width = 1;
-    while width <= Setting::MOST_WIDTH {
+    for width in 1..=Setting::MOST_WIDTH {
         let tried = setting.with_width(width);
         let number = tried.number_of(tried.half());
         if number == 0 {
@@ -37,7 +36,6 @@ pub fn quote_of(setting: Setting) -> Quote
         if number != Setting::UNFIT {
             return no_figures(number);
         }
-        width += 1;
     }
     no_figures(20)
 }
