@@ -8,7 +8,7 @@ ghost use Rattle.full.specs.Rules.{full_verdict};
 ghost use Rattle.full.specs.Laws.Sums.{claimed_for, compared, steps, SumsReady, SumRowReady, RowCompared};
 ghost use Rattle.full.specs.Laws.Claims.{Space};
 
-use ticket::{Answer, PartNumber, Setting};
+use ticket::{Answer, PartNumber, Reason, Setting};
 
 // The most entries of an operand, and the most claims; the most sums of a row.
 const MOST_ENTRIES: usize = (Setting::MOST_ROWS * Setting::MOST_INNER) as usize;
@@ -127,7 +127,7 @@ impl Decoded<'_> {
             let place = (start + count) as u32;
             let made = products + self.setting.inner;
             return Err(Answer {
-                number: 16,
+                number: Reason::Claim.number(),
                 place,
                 row: 0,
                 products: made,

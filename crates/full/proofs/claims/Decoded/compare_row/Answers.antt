@@ -1,4 +1,4 @@
-use Rattle.std.proofs.Common.{arith}
+use Rattle.std.proofs.Common.{refl, arith}
 use Rattle.full.proofs.Laws.Sums.{few_agree, row_untrue, row_true}
 use Rattle.full.proofs.claims.Decoded.compare_row.Goals as goal
 
@@ -12,7 +12,8 @@ pub overflow_add-products : goal.overflow_add-products
 overflow_add-products c = omega (arith, few_agree c.row_sums.ensures c.requires c.agreeing-count.ensures)
 
 pub returns-then-count-width : goal.returns-then-count-width
-returns-then-count-width c = search row_untrue
+returns-then-count-width c =
+    rw c.number.ensures (row_untrue c.row_sums.ensures c.requires c.agreeing-count.ensures c.if-count-width.true refl)
 
 pub returns : goal.returns
 returns c = search row_true
