@@ -132,6 +132,6 @@ module _ (G : Setting) (t : List ℕ) where
   pub check_passed : answered (Ok tt) ≡ reading G t → Passed G t
   check_passed is = passed_of G t (passed_zero is)
 
-  pub check_compared : answered (Ok tt) ≡ reading G t → {b : Answer} → b ≡ full_verdict G t → b ≡ full_check G t
+  pub check_compared : answered (Ok tt) ≡ reading G t → (b : Answer) → b ≡ full_verdict G t → b ≡ full_check G t
   unfolding full_check
-  check_compared is = after_ok is
+  check_compared is b b-is = after_ok is b-is

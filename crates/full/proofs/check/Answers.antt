@@ -6,7 +6,7 @@ pub check_claims-requires : goal.check_claims-requires
 check_claims-requires c = check_passed _ _ c.in-Ok.ensures
 
 pub returns-in-Ok : goal.returns-in-Ok
-returns-in-Ok c = check_compared _ _ c.in-Ok.ensures c.check_claims.ensures
+returns-in-Ok c = check_compared _ _ c.in-Ok.ensures _ c.check_claims.ensures
 
 pub returns-in-Err : goal.returns-in-Err
 returns-in-Err c = c.from.ensures ∙ check_refused _ _ c.in-Err.refusal c.in-Err.ensures
