@@ -86,9 +86,8 @@ fn first_beyond(bound: u32, number: u32, operand: &[i32], start: u32) -> Answer
     if all_within(operand, bound) {
         return Answer::PASSED;
     }
-    let mut k = 0;
-    while k < operand.len() {
-        if bound < magnitude(operand[k]) {
+    for (k, entry) in operand.iter().enumerate() {
+        if bound < entry.unsigned_abs() {
             return Answer {
                 number,
                 place: start + (k as u32),
@@ -96,7 +95,6 @@ fn first_beyond(bound: u32, number: u32, operand: &[i32], start: u32) -> Answer
                 products: 0,
             };
         }
-        k += 1;
     }
     Answer::PASSED
 }
@@ -106,23 +104,10 @@ fn all_within(operand: &[i32], bound: u32) -> bool
     ensures { result ≡ all (length operand.now) (within_at bound operand.now) }
 {
     let mut within = true;
-    let mut k = 0;
-    while k < operand.len() {
-        within = within & (magnitude(operand[k]) <= bound);
-        k += 1;
+    for entry in operand {
+        within &= entry.unsigned_abs() <= bound;
     }
     within
-}
-
-// The absolute value, of -2^31 too.
-fn magnitude(n: i32) -> u32
-    ensures { result ≡ unsigned_abs n }
-{
-    let wide = n as i64;
-    if wide < 0 {
-        return (0 - wide) as u32;
-    }
-    wide as u32
 }
 
 // A sum with entry k of the bias added, modulo 2^32; the sum itself, where there is no bias.
@@ -130,21 +115,10 @@ pub(crate) fn with_bias(bias: &[i32], k: usize, sum: u32) -> u32
     requires { BiasReady bias.now k 1 }
     ensures { result ≡ biased_word bias.now k sum }
 {
-    if bias.len() == 0 {
+    if bias.is_empty() {
         return sum;
     }
-    std::num::wrapping_add_u32(sum, low_word(bias[k]))
-}
-
-// A number modulo 2^32.
-fn low_word(n: i32) -> u32
-    ensures { result ≡ least_residue (2 ^ 32) n }
-{
-    let size = magnitude(n);
-    if n < 0 {
-        return std::num::wrapping_sub_u32(0, size);
-    }
-    size
+    sum.wrapping_add(bias[k].cast_unsigned())
 }
 
 // All columns of a matrix, one after the other, at the beginning of the list.
@@ -153,12 +127,10 @@ pub(crate) fn narrow_columns(matrix: &[i32], height: usize, width: usize, list: 
     ensures { Filled (pos 0) list.old (width * height) (turned_number matrix.now height width) list.new }
 {
     let mut start = 0;
-    let mut column = 0;
-    while column < width {
+    for column in 0..width {
         let end = start + height;
         narrow(matrix, width, column, &mut list[start..end]);
         start = end;
-        column += 1;
     }
 }
 
@@ -169,10 +141,8 @@ pub(crate) fn narrow(matrix: &[i32], width: usize, column: usize, list: &mut [i1
     ensures { Filled (pos 0) list.old (length list.old) (column_of matrix.now width column) list.new }
 {
     let mut at = column;
-    let mut k = 0;
-    while at < matrix.len() {
-        list[k] = matrix[at] as i16;
+    for number in list.iter_mut() {
+        *number = matrix[at] as i16;
         at += width;
-        k += 1;
     }
 }
