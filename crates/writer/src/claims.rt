@@ -144,8 +144,7 @@ fn write_rows(
     let mut quotients = a.len() + b.len() + bias.len();
     let mut remainders = quotients + (height as usize) * width;
     let mut from = 0;
-    let mut row = 0;
-    while row < height {
+    for row in 0..height {
         let end = from + line.len();
         narrow(&a[from..end], 1, 0, line);
         exact::row_sums(line, columns, sums);
@@ -164,7 +163,6 @@ fn write_rows(
         quotients += width;
         remainders += width;
         from = end;
-        row += 1;
     }
 }
 
@@ -187,15 +185,13 @@ fn write_row(
 {
     let mut quotient = ticket::word(3, 0, row, 0);
     let mut remainder = ticket::word(4, 0, row, 0);
-    let mut column = 0;
-    while column < sums.len() {
-        let sum = with_bias(bias, start + column, sums[column]);
+    for (column, sum) in sums.iter().enumerate() {
+        let sum = with_bias(bias, start + column, *sum);
         let claim = divide(setting, half, lift, sum);
         write_record(output, quotients + column, quotient, claim.quotient);
         write_record(output, remainders + column, remainder, claim.remainder);
         quotient += COLUMN;
         remainder += COLUMN;
-        column += 1;
     }
 }
 
@@ -205,17 +201,15 @@ fn divide(setting: Setting, half: Residue, lift: u32, sum: u32) -> Claim
     requires { Lifting setting half.0 lift }
     ensures { Claimed setting sum result.quotient.0 result.remainder.0 }
 {
-    let lifted = std::num::wrapping_add_u32(sum, lift);
+    let lifted = sum.wrapping_add(lift);
     let shifted = lifted / setting.scale;
-    let remainder = Residue(lifted % setting.scale);
-    if shifted < half.0 {
-        return Claim {
-            quotient: Residue(shifted + (Residue::modulus() - half.0)),
-            remainder,
-        };
-    }
+    let quotient = if shifted < half.0 {
+        shifted + (Residue::modulus() - half.0)
+    } else {
+        shifted - half.0
+    };
     Claim {
-        quotient: Residue(shifted - half.0),
-        remainder,
+        quotient: Residue(quotient),
+        remainder: Residue(lifted % setting.scale),
     }
 }

@@ -32,12 +32,10 @@ pub(crate) fn write_operand(
         return;
     }
     let mut first = 0;
-    let mut row = 0;
-    while row < height {
+    for row in 0..height {
         let end = first + width;
         write_line(output, start + first, kind, row, &operand[first..end]);
         first = end;
-        row += 1;
     }
 }
 
@@ -48,14 +46,12 @@ fn write_few(output: &mut [u8], start: usize, kind: u8, width: usize, operand: &
 {
     let mut row = 0;
     let mut column = 0;
-    let mut k = 0;
-    while k < operand.len() {
+    for (k, entry) in operand.iter().enumerate() {
         let header = ticket::word(kind, 0, row, column);
-        let value = residue(Entry(operand[k]));
+        let value = residue(Entry(*entry));
         write_record(output, start + k, header, value);
-        k += 1;
         column += 1;
-        if (column as usize) == width {
+        if usize::from(column) == width {
             column = 0;
             row += 1;
         }
@@ -69,12 +65,10 @@ fn write_line(output: &mut [u8], first: usize, kind: u8, row: u8, entries: &[i32
     ensures { LineWrote kind row first entries.now output.old output.new }
 {
     let mut header = ticket::word(kind, 0, row, 0);
-    let mut column = 0;
-    while column < entries.len() {
-        let value = residue(Entry(entries[column]));
+    for (column, entry) in entries.iter().enumerate() {
+        let value = residue(Entry(*entry));
         write_record(output, first + column, header, value);
         header += COLUMN;
-        column += 1;
     }
 }
 
@@ -108,8 +102,10 @@ fn residue(entry: Entry) -> Residue
     ensures { result.0 ≡ least_residue modulus entry.0 }
 {
     let n = entry.0;
-    if n < 0 {
-        return Residue((n + (Residue::modulus() as i32)) as u32);
-    }
-    Residue(n as u32)
+    let least = if n < 0 {
+        (n + (Residue::modulus() as i32)) as u32
+    } else {
+        n as u32
+    };
+    Residue(least)
 }

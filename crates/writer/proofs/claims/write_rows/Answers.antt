@@ -59,13 +59,6 @@ overflow_add-remainders-in-loop-row c =
     row_room c.requires c.loop-row.invariant.0 (more) in
     omega (arith, room)
 
-pub overflow_add-row : goal.overflow_add-row
-overflow_add-row c =
-    let more : c.loop-row.row < c.args.setting.rows = c.loop-row-test.true in
-    let room : let of = c.args in RowRoom of.setting of.a.now c.loop-row.row c.loop-row.from c.loop-row.line c.loop-row.quotients c.loop-row.remainders =
-    row_room c.requires c.loop-row.invariant.0 (more) in
-    omega (arith, room)
-
 pub loop-row-preserved : goal.loop-row-preserved
 loop-row-preserved c =
     let more : c.loop-row.row < c.args.setting.rows = c.loop-row-test.true in
