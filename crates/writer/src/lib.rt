@@ -5,10 +5,10 @@ ghost use Rattle.std.specs.Prelude.{◌≡◌, ◌≤◌, ◌++◌, length, drop
 ghost use Rattle.ticket.specs.Rules.{half_range, ticket_length};
 ghost use Rattle.ticket.specs.Laws.Limits.{clamped};
 ghost use Rattle.writer.specs.Rules.{output_after, ticket_of, writing};
-ghost use Rattle.writer.specs.Laws.Answers.{Writable};
+ghost use Rattle.writer.specs.Laws.Answers.{Writable, answer_of};
 
 use residue::Residue;
-use ticket::{Answer, Setting};
+use ticket::{Answer, Reason, Refusal, Setting};
 
 mod claims;
 mod operands;
@@ -20,37 +20,37 @@ pub fn write(setting: Setting, a: &[i32], b: &[i32], bias: &[i32], output: &mut 
     ensures { (result ≡ writing setting a.now b.now bias.now (length output.old))
         × (output.new ≡ output_after setting a.now b.now bias.now output.old) }
 {
+    match try_write(setting, a, b, bias, output) {
+        Ok(written) => written,
+        Err(refusal) => Answer::from(refusal),
+    }
+}
+
+// The same, with the refusal as an error.
+fn try_write(
+    setting: Setting,
+    a: &[i32],
+    b: &[i32],
+    bias: &[i32],
+    output: &mut [u8],
+) -> Result<Answer, Refusal>
+    ensures { (answer_of result ≡ writing setting a.now b.now bias.now (length output.old))
+        × (output.new ≡ output_after setting a.now b.now bias.now output.old) }
+{
     let half = setting.half();
-    let number = setting.number_of(half);
-    if number != 0 {
-        return Answer {
-            number,
-            place: 0,
-            row: 0,
-            products: 0,
-        };
-    }
-    let read = operands::read(setting, a, b, bias);
-    if read.number != 0 {
-        return read;
-    }
+    setting.test(half)?;
+    operands::read(setting, a, b, bias)?;
     let length = setting.length();
     if output.len() < length {
-        return Answer {
-            number: 15,
-            place: 0,
-            row: 0,
-            products: 0,
-        };
+        return Err(Refusal::from(Reason::Output));
     }
     write_ticket(setting, half, a, b, bias, output);
-    let place = length as u32;
-    Answer {
+    Ok(Answer {
         number: 0,
-        place,
+        place: length as u32,
         row: 0,
         products: setting.products(),
-    }
+    })
 }
 
 // The ticket, at the beginning of the output. The claims are written first: the records of the operands are then made while the

@@ -3,100 +3,81 @@ ghost use Rattle.std.specs.Prelude.{◌≡◌, ◌+◌, ◌*◌, ◌^◌, ◌<�
 ghost use Rattle.residue.specs.Rules.{least_residue};
 ghost use Rattle.algebra.specs.Laws.Fills.{Filled};
 ghost use Rattle.exact.specs.Laws.Matrices.{turned_number};
-ghost use Rattle.ticket.specs.Rules.{first_refusal};
+ghost use Rattle.ticket.specs.Rules.{answered, first_refusal, reason_number};
 ghost use Rattle.ticket.specs.Laws.All.{all};
 ghost use Rattle.ticket.specs.Laws.Limits.{Within};
 ghost use Rattle.writer.specs.Rules.{beyond_number, operands_reading};
-ghost use Rattle.writer.specs.Laws.Answers.{lengths_reading};
+ghost use Rattle.writer.specs.Laws.Answers.{length_reading, lengths_reading};
 ghost use Rattle.writer.specs.Laws.Operands.{within_at, column_of, BiasReady, NarrowReady, TurnReady, biased_word};
 
-use ticket::{Answer, PartNumber, Setting};
+use ticket::{PartNumber, Reason, Refusal, Setting};
 
-// The answer of the tests 13, 14 and 18; its number is 0 where they pass.
-pub(crate) fn read(setting: Setting, a: &[i32], b: &[i32], bias: &[i32]) -> Answer
+// The tests 13, 14 and 18, in order.
+pub(crate) fn read(setting: Setting, a: &[i32], b: &[i32], bias: &[i32]) -> Result<(), Refusal>
     requires { Within setting }
-    ensures { result ≡ operands_reading setting a.now b.now bias.now }
+    ensures { answered result ≡ operands_reading setting a.now b.now bias.now }
 {
-    let of_lengths = lengths(setting, a, b, bias);
-    if of_lengths.number != 0 {
-        return of_lengths;
-    }
-    let of_entries = entries(setting.bound, a, b);
-    if of_entries.number != 0 {
-        return of_entries;
-    }
+    lengths(setting, a, b, bias)?;
+    entries(setting.bound, a, b)?;
     first_beyond(
         setting.largest_bias(),
-        18,
+        Reason::BiasEntry,
         bias,
         setting.start(PartNumber::BIAS),
     )
 }
 
-// That of test 13.
-fn lengths(setting: Setting, a: &[i32], b: &[i32], bias: &[i32]) -> Answer
+// Test 13.
+fn lengths(setting: Setting, a: &[i32], b: &[i32], bias: &[i32]) -> Result<(), Refusal>
     requires { Within setting }
-    ensures { result ≡ lengths_reading setting a.now b.now bias.now }
+    ensures { answered result ≡ lengths_reading setting a.now b.now bias.now }
 {
-    if a.len() != setting.size(PartNumber::A) as usize {
-        return Answer {
-            number: 13,
-            place: 0,
-            row: 0,
-            products: 0,
-        };
-    }
-    if b.len() != setting.size(PartNumber::B) as usize {
-        return Answer {
-            number: 13,
-            place: 1,
-            row: 0,
-            products: 0,
-        };
-    }
-    if bias.len() != setting.size(PartNumber::BIAS) as usize {
-        return Answer {
-            number: 13,
-            place: 2,
-            row: 0,
-            products: 0,
-        };
-    }
-    Answer::PASSED
+    length(setting, PartNumber::A, a)?;
+    length(setting, PartNumber::B, b)?;
+    length(setting, PartNumber::BIAS, bias)
 }
 
-// That of test 14: the entries of A, then on in B.
-fn entries(bound: u32, a: &[i32], b: &[i32]) -> Answer
+// The same of one operand, which is a part of the ticket: its place is the part's number.
+fn length(setting: Setting, which: PartNumber, operand: &[i32]) -> Result<(), Refusal>
+    requires { Within setting }
+    ensures { answered result ≡ length_reading setting which.0 operand.now }
+{
+    if operand.len() != setting.size(which) as usize {
+        return Err(Refusal {
+            reason: Reason::OperandLength,
+            place: which.0,
+        });
+    }
+    Ok(())
+}
+
+// Test 14: the entries of A, then on in B.
+fn entries(bound: u32, a: &[i32], b: &[i32]) -> Result<(), Refusal>
     requires { length a.now + length b.now < 2 ^ 32 }
-    ensures { result ≡ first_refusal 0 (length (a.now ++ b.now)) (beyond_number bound 14 (a.now ++ b.now)) }
+    ensures { answered result ≡ first_refusal 0 (length (a.now ++ b.now)) (beyond_number bound 14 (a.now ++ b.now)) }
 {
-    let in_a = first_beyond(bound, 14, a, 0);
-    if in_a.number != 0 {
-        return in_a;
-    }
-    first_beyond(bound, 14, b, a.len() as u32)
+    first_beyond(bound, Reason::OperandEntry, a, 0)?;
+    first_beyond(bound, Reason::OperandEntry, b, a.len() as u32)
 }
 
-// The first entry beyond a bound, which has the given number, its place counted from start; number 0 where there is none. The entries
-// are tested without a branch first; one by one only where some entry is beyond the bound.
-fn first_beyond(bound: u32, number: u32, operand: &[i32], start: u32) -> Answer
-    requires { (start + length operand.now < 2 ^ 32) × (1 ≤ number) }
-    ensures { result ≡ first_refusal start (length operand.now) (beyond_number bound number operand.now) }
+// Refuses the first entry beyond a bound for the given reason, its place counted from start. The entries are tested without a branch
+// first; one by one only where some entry is beyond the bound.
+fn first_beyond(bound: u32, reason: Reason, operand: &[i32], start: u32) -> Result<(), Refusal>
+    requires { start + length operand.now < 2 ^ 32 }
+    ensures { answered result ≡ first_refusal start (length operand.now) (beyond_number bound (reason_number reason) operand.now) }
 {
     if all_within(operand, bound) {
-        return Answer::PASSED;
+        return Ok(());
     }
     for (k, entry) in operand.iter().enumerate() {
         if bound < entry.unsigned_abs() {
-            return Answer {
-                number,
+            return Err(Refusal {
+                reason,
                 place: start + (k as u32),
-                row: 0,
-                products: 0,
-            };
+            });
         }
     }
-    Answer::PASSED
+    Ok(())
 }
 
 // Whether no entry is beyond the bound.
