@@ -10,31 +10,32 @@ ghost use Rattle.writer.specs.Rules.{beyond_number, operands_reading};
 ghost use Rattle.writer.specs.Laws.Answers.{length_reading, lengths_reading};
 ghost use Rattle.writer.specs.Laws.Operands.{within_at, column_of, BiasReady, NarrowReady, TurnReady, biased_word};
 
+use crate::Job;
 use ticket::{PartNumber, Reason, Refusal, Setting};
 
 // The tests 13, 14 and 18, in order.
-pub(crate) fn read(setting: Setting, a: &[i32], b: &[i32], bias: &[i32]) -> Result<(), Refusal>
-    requires { Within setting }
-    ensures { answered result ≡ operands_reading setting a.now b.now bias.now }
+pub(crate) fn read(job: &Job) -> Result<(), Refusal>
+    requires { Within job.now.setting }
+    ensures { answered result ≡ operands_reading job.now.setting job.now.a.now job.now.b.now job.now.bias.now }
 {
-    lengths(setting, a, b, bias)?;
-    entries(setting.bound, a, b)?;
+    lengths(job)?;
+    entries(job.setting.bound, job.a, job.b)?;
     first_beyond(
-        setting.largest_bias(),
+        job.setting.largest_bias(),
         Reason::BiasEntry,
-        bias,
-        setting.start(PartNumber::BIAS),
+        job.bias,
+        job.setting.start(PartNumber::BIAS),
     )
 }
 
 // Test 13.
-fn lengths(setting: Setting, a: &[i32], b: &[i32], bias: &[i32]) -> Result<(), Refusal>
-    requires { Within setting }
-    ensures { answered result ≡ lengths_reading setting a.now b.now bias.now }
+fn lengths(job: &Job) -> Result<(), Refusal>
+    requires { Within job.now.setting }
+    ensures { answered result ≡ lengths_reading job.now.setting job.now.a.now job.now.b.now job.now.bias.now }
 {
-    length(setting, PartNumber::A, a)?;
-    length(setting, PartNumber::B, b)?;
-    length(setting, PartNumber::BIAS, bias)
+    length(job.setting, PartNumber::A, job.a)?;
+    length(job.setting, PartNumber::B, job.b)?;
+    length(job.setting, PartNumber::BIAS, job.bias)
 }
 
 // The same of one operand, which is a part of the ticket: its place is the part's number.

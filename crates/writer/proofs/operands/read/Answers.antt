@@ -15,7 +15,7 @@ returns-in_err-lengths c =
 
 pub entries-requires : goal.entries-requires
 entries-requires c =
-    let of = c.args in
+    let of = c.args.job.now in
     let long : Lengths of.setting of.a.now of.b.now of.bias.now = passed_lengths _ _ _ _ (passed_zero c.in_ok-lengths.ensures) in
     omega (arith, long, parts_are of.setting, counts c.requires.sizes)
 
@@ -26,7 +26,7 @@ returns-in_err-entries c =
 
 pub first_beyond-requires : goal.first_beyond-requires
 first_beyond-requires c =
-    let of = c.args in
+    let of = c.args.job.now in
     let long : Lengths of.setting of.a.now of.b.now of.bias.now = passed_lengths _ _ _ _ (passed_zero c.in_ok-lengths.ensures) in
     let few : length of.a.now + length of.b.now + length of.bias.now < 2 ^ 32 =
     omega (arith, long, parts_are of.setting, counts c.requires.sizes) in
@@ -37,7 +37,7 @@ first_beyond-requires c =
 
 pub returns : goal.returns
 returns c =
-    let of = c.args in
+    let of = c.args.job.now in
     let long : Lengths of.setting of.a.now of.b.now of.bias.now = passed_lengths _ _ _ _ (passed_zero c.in_ok-lengths.ensures) in
     let after_both : c.start.result ≡ length (of.a.now ++ of.b.now) =
     c.start.ensures ∙ ap (λ H. start H of_bias) (clamped_same c.requires.sizes c.requires.numbers)

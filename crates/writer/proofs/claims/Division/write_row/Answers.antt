@@ -1,6 +1,6 @@
 use Rattle.std.proofs.Common.{◌≡◌, ◌∙◌, arith}
 use Rattle.writer.proofs.Laws.Rows.RowClaim.{row_claim}
-use Rattle.writer.proofs.claims.write_row.Goals as goal
+use Rattle.writer.proofs.claims.Division.write_row.Goals as goal
 
 pub loop-column-preserved : goal.loop-column-preserved
 loop-column-preserved c =
@@ -16,5 +16,5 @@ loop-column-preserved c =
 
 pub returns : goal.returns
 returns c =
-    let all : c.loop-column.column ≡ c.args.setting.columns = omega (arith, c.requires.long_sums) in
+    let all : c.loop-column.column ≡ c.args.self.setting.columns = omega (arith, c.requires.long_sums) in
     record { long = c.loop-column.invariant.0; wrote = rw all at c.loop-column.invariant.3 }

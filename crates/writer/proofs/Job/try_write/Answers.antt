@@ -12,7 +12,7 @@ use Rattle.writer.specs.Rules.{operands_reading, written}
 use Rattle.writer.specs.Laws.Answers.{Writable}
 use Rattle.writer.proofs.Laws.Answers.{output_short, writing_of, setting_refused, operands_refused, passed_operands}
 use Rattle.writer.proofs.Laws.Tickets.{refused, all_written}
-use Rattle.writer.proofs.try_write.Goals as goal
+use Rattle.writer.proofs.Job.try_write.Goals as goal
 
 -- by half of the range the setting passes its tests, and the code takes it as it is
 module _ (G : Setting) {half : ℕ} (half_is : half ≡ half_range (clamped G)) (passed : 0 ≡ number_by G half) where
@@ -28,47 +28,48 @@ module _ (G : Setting) {half : ℕ} (half_is : half ≡ half_range (clamped G)) 
 pub returns-in_err-test : goal.returns-in_err-test
 returns-in_err-test c =
     let p = err_from_is_err_and c.from_residual.result c.from_residual.ensures.1 in
-    let number = sym (c.in_err-test.ensures ∙ number_by_lem _ c.half-half.ensures) in
+    let number = sym (c.in_err-test.ensures ∙ number_by_lem _ c.requires) in
     rw (p.1, p.2) (refused _ _ _ _ _ (setting_refused _ _ _ _ _ number (reason_numbered _)) (reason_numbered _))
 
 pub read-requires : goal.read-requires
-read-requires c = limits_of _ (holds _ c.half-half.ensures c.in_ok-test.ensures)
+read-requires c = limits_of _ (holds _ c.requires c.in_ok-test.ensures)
 
 pub returns-in_err-read : goal.returns-in_err-read
 returns-in_err-read c =
     let p = err_from_is_err_and c.from_residual-in_err-read.result c.from_residual-in_err-read.ensures.1 in
-    let setting = holds _ c.half-half.ensures c.in_ok-test.ensures in
+    let setting = holds _ c.requires c.in_ok-test.ensures in
     rw (p.1, p.2) (refused _ _ _ _ _ (operands_refused _ _ _ _ _ setting (sym c.in_err-read.ensures) (reason_numbered _)) (reason_numbered _))
 
 pub returns-then-output-length : goal.returns-then-output-length
 returns-then-output-length c =
-    let long : c.length-length.result ≡ ticket_length c.args.setting =
-    c.length-length.ensures ∙ ap ticket_length (same _ c.half-half.ensures c.in_ok-test.ensures) in
-    let short : length c.args.output.now < ticket_length c.args.setting = omega (arith, c.if-output-length.true, long) in
+    let long : c.length-length.result ≡ ticket_length c.args.self.now.setting =
+    c.length-length.ensures ∙ ap ticket_length (same _ c.requires c.in_ok-test.ensures) in
+    let short : length c.args.output.now < ticket_length c.args.self.now.setting = omega (arith, c.if-output-length.true, long) in
     rw c.from.ensures
-    (refused _ _ _ _ _ (writing_of _ _ _ _ _ (output_short (ready _ c.half-half.ensures c.in_ok-test.ensures c.in_ok-read.ensures) short))
+    (refused _ _ _ _ _ (writing_of _ _ _ _ _ (output_short (ready _ c.requires c.in_ok-test.ensures c.in_ok-read.ensures) short))
     (λ z. omega arith))
 
 pub write_ticket-requires : goal.write_ticket-requires
 write_ticket-requires c =
-    let long = c.length-length.ensures ∙ ap ticket_length (same _ c.half-half.ensures c.in_ok-test.ensures) in (
-      ready _ c.half-half.ensures c.in_ok-test.ensures c.in_ok-read.ensures,
-      c.half-half.ensures,
-      rw long at c.if-output-length.false,
-    )
+    let long = c.length-length.ensures ∙ ap ticket_length (same _ c.requires c.in_ok-test.ensures) in
+    record {
+      writable = ready _ c.requires c.in_ok-test.ensures c.in_ok-read.ensures;
+      half_is = c.requires;
+      room = rw long at c.if-output-length.false;
+    }
 
 pub overflow_cast-result : goal.overflow_cast-result
 overflow_cast-result c =
-    let long = c.length-length.ensures ∙ ap ticket_length (same _ c.half-half.ensures c.in_ok-test.ensures) in
-    let few = counts (limits_of _ (holds _ c.half-half.ensures c.in_ok-test.ensures)).sizes in
+    let long = c.length-length.ensures ∙ ap ticket_length (same _ c.requires c.in_ok-test.ensures) in
+    let few = counts (limits_of _ (holds _ c.requires c.in_ok-test.ensures)).sizes in
     omega (arith, long, length_most few, few)
 
 pub returns : goal.returns
 returns c =
-    let same_is = same _ c.half-half.ensures c.in_ok-test.ensures in
+    let same_is = same _ c.requires c.in_ok-test.ensures in
     let long = c.length-length.ensures ∙ ap ticket_length same_is in
-    let answered : let G = c.args.setting in answer 0 (ticket_length G) 0 c.products.result ≡ written G =
+    let answered : let G = c.args.self.now.setting in answer 0 (ticket_length G) 0 c.products.result ≡ written G =
     ap (answer 0 (ticket_length _) 0) (c.products.ensures ∙ ap sum_products same_is) in
     rw (long, answered)
-    (all_written _ _ _ _ _ (ready _ c.half-half.ensures c.in_ok-test.ensures c.in_ok-read.ensures) (rw long at c.if-output-length.false)
+    (all_written _ _ _ _ _ (ready _ c.requires c.in_ok-test.ensures c.in_ok-read.ensures) (rw long at c.if-output-length.false)
     c.write_ticket.ensures)
