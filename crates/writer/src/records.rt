@@ -12,6 +12,9 @@ use ticket::RECORD;
 // By how much the first word of a record grows from one column to the next.
 pub(crate) const COLUMN: u32 = 16_777_216;
 
+// How many bytes a word of a record has.
+const WORD: usize = RECORD / 2;
+
 // Operands of at most so many entries are written record by record: to make several at a time does not pay.
 const FEW: usize = 8;
 
@@ -86,14 +89,8 @@ fn put(bytes: &mut [u8], header: u32, value: u32)
     requires { length bytes.old ≡ record_bytes }
     ensures { bytes.new ≡ words_of header value }
 {
-    bytes[0] = (header % 256) as u8;
-    bytes[1] = (header / 256 % 256) as u8;
-    bytes[2] = (header / 65_536 % 256) as u8;
-    bytes[3] = (header / 16_777_216 % 256) as u8;
-    bytes[4] = (value % 256) as u8;
-    bytes[5] = (value / 256 % 256) as u8;
-    bytes[6] = (value / 65_536 % 256) as u8;
-    bytes[7] = (value / 16_777_216 % 256) as u8;
+    bytes[..WORD].copy_from_slice(&header.to_le_bytes());
+    bytes[WORD..].copy_from_slice(&value.to_le_bytes());
 }
 
 // The least residue of a small entry.
