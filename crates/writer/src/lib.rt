@@ -58,10 +58,9 @@ impl Job<'_> {
         }
         self.write_ticket(output);
         Ok(Answer {
-            number: 0,
             place: length as u32,
-            row: 0,
             products: self.setting.products(),
+            ..Answer::PASSED
         })
     }
 

@@ -93,7 +93,7 @@ fn put(bytes: &mut [u8], header: u32, value: u32)
     bytes[WORD..].copy_from_slice(&value.to_le_bytes());
 }
 
-// The least residue of a small entry.
+// The least residue of a small entry; in 32 bits, since the compiler then makes several at a time.
 fn residue(entry: Entry) -> Residue
     requires { unsigned_abs entry.0 < 2 ^ 30 }
     ensures { result.0 ≡ least_residue modulus entry.0 }

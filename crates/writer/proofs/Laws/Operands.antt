@@ -13,21 +13,21 @@
 --   word_read         a 32-bit number modulo 2^32, as it is read and cast
 --   entry_fits, entry_read   an entry of at most 30 bits fits 32, and is itself as it is read
 --   residue_negative, residue_fits, residue_positive   the least residue of an entry below zero, and of another
-use Rattle.std.specs.Prelude.{◌≡◌, ℕ, suc, ◌+◌, ◌-◌, ◌%◌, ◌^◌, ◌<◌, ◌≤◌, Bool, true, false, List, ◌++◌, length, take, drop, ℤ, pos, negsuc, ◌+ℤ◌, ◌-ℤ◌, ◌≢◌, int_lt, nat_le, slice_index_or, unsigned_abs, refl}
+use Rattle.std.specs.Prelude.{◌≡◌, ℕ, suc, ◌+◌, ◌-◌, ◌^◌, ◌<◌, ◌≤◌, Bool, true, false, List, ◌++◌, length, take, drop, ℤ, pos, negsuc, ◌+ℤ◌, ◌≢◌, int_lt, nat_le, slice_index_or, unsigned_abs, refl}
 use Rattle.std.proofs.Math.Decide.{ℕ_discrete, dec_le}
 use Rattle.std.proofs.Common.{arith, sym, ap, subst, ◌∙◌, true≢false, le-leb, leb-true, ltb-true, pow_mono, length-append, get_or-append-add, SFits, to_z, of_z, to_z-of_z}
 use Rattle.std.proofs.Math.Path.{subst⁻¹}
 use Rattle.std.proofs.lemmas.Bool.{lt-leb}
 use Rattle.std.proofs.Math.ListN.{get_or-append, get_or-eq_default}
 use Rattle.std.specs.Int.Signed.{mag}
-use Rattle.std.specs.Int.{w16, w32, w64}
+use Rattle.std.specs.Int.{w16, w32}
 use Rattle.std.proofs.Math.Facts.{to_z_pos}
 use Rattle.residue.specs.Rules.{modulus, least_residue}
-use Rattle.residue.proofs.Laws.Integers.{equal_of_parts, parts_sum, parts_difference}
+use Rattle.residue.proofs.Laws.Integers.{equal_of_parts, parts_sum}
 use Rattle.residue.proofs.Laws.Modulus.{modulus_above, modulus_below}
 use Rattle.residue.proofs.Laws.Modulus.PartnerModuli.{modulus_positive}
 use Rattle.residue.proofs.Laws.Residues.{residue_below, residue_of_residue, residue_shift}
-use Rattle.residue.proofs.Laws.Signed.{widened, narrowed_is, narrowed_fits}
+use Rattle.residue.proofs.Laws.Signed.{narrowed_is, narrowed_fits}
 use Rattle.algebra.proofs.Laws.Fills.{part_of, part_long}
 use Rattle.ticket.specs.Rules.{unless, refusal, after, first_refusal}
 use Rattle.ticket.specs.Laws.All.{all}

@@ -1,8 +1,8 @@
-use Rattle.std.proofs.Common.{◌+◌, ◌*◌, ◌^◌, ◌<◌, length, ap, ◌∙◌, arith}
+use Rattle.std.proofs.Common.{◌*◌, ap, ◌∙◌, arith}
 use Rattle.algebra.proofs.Laws.Fills.{part_long}
 use Rattle.writer.proofs.Laws.Entries.{limits, lift_fits, long_b, small_a, small_b}
 use Rattle.writer.proofs.Laws.Operands.{small_part}
-use Rattle.writer.proofs.Laws.Rows.{RowRoom, claims_early, rows_begun, row_room, row_ready, rows_none, rows_next, rows_more}
+use Rattle.writer.proofs.Laws.Rows.{claims_early, rows_begun, row_room, row_ready, rows_none, rows_next, rows_more}
 use Rattle.writer.proofs.claims.write_rows.Goals as goal
 
 pub overflow_cast-lift : goal.overflow_cast-lift

@@ -3,15 +3,6 @@ use Rattle.std.proofs.lemmas.List.{length-replicate}
 use Rattle.writer.proofs.Laws.Entries.{long_b}
 use Rattle.writer.proofs.claims.write_within.Goals as goal
 
-pub whole_as_front-write_rows : goal.whole_as_front-write_rows
-whole_as_front-write_rows g c = let room = c.requires.1 in (room.for_line, omega (arith, room.small))
-
-pub whole_as_slice-write_rows : goal.whole_as_slice-write_rows
-whole_as_slice-write_rows g c = omega (arith, c.requires.1.small)
-
-pub whole_as_front-write_rows-2 : goal.whole_as_front-write_rows-2
-whole_as_front-write_rows-2 g c = let room = c.requires.1 in (room.for_sums, omega (arith, room.small))
-
 pub write_rows-requires : goal.write_rows-requires
 write_rows-requires g c =
     let pre = c.requires.0 in

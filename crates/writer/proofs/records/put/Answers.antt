@@ -1,4 +1,3 @@
-use Rattle.std.proofs.Common.{◌∙◌}
 use Rattle.writer.proofs.Laws.Records.{words_put}
 use Rattle.writer.proofs.records.put.Goals as goal
 

@@ -1,7 +1,6 @@
-use Rattle.std.proofs.Common.{◌≡◌, ◌+◌, ◌^◌, ◌<◌, length, get_or, ℤ, pos, nat_abs, sym, ap, ◌∙◌, arith}
+use Rattle.std.proofs.Common.{◌≡◌, ◌^◌, ◌<◌, length, get_or, ℤ, pos, nat_abs, sym, ap, ◌∙◌, arith}
 use Rattle.residue.specs.Rules.{modulus, least_residue}
 use Rattle.algebra.proofs.Laws.Positions.{Position, position_next, position_row}
-use Rattle.writer.specs.Laws.Lines.{OperandTo}
 use Rattle.writer.proofs.Laws.Lines.{operand_record}
 use Rattle.writer.proofs.Laws.Operands.{entry_read}
 use Rattle.writer.proofs.records.write_few.Goals as goal

@@ -1,4 +1,4 @@
-use Rattle.std.proofs.Common.{◌≡◌, ◌+◌, ◌-◌, ◌*◌, ◌<◌, ◌≤◌, length, take, drop, sym, ap, ◌∙◌, arith}
+use Rattle.std.proofs.Common.{◌≡◌, ◌+◌, ◌-◌, ◌*◌, ◌≤◌, length, take, drop, sym, ap, ◌∙◌, arith}
 use Rattle.algebra.proofs.Laws.Fills.{part_long}
 use Rattle.algebra.proofs.Laws.Positions.{row_inside}
 use Rattle.writer.proofs.Laws.Lines.{row_records}
