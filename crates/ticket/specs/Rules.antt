@@ -6,6 +6,8 @@
 --   unless c a b         b where c holds, else a
 --   answer c k i n       the answer of these four numbers: number, place, row, products
 --   refusal c k          the answer of number c at place k
+--   reason_number R      the number of the reason R in the published table
+--   answered r, failed r  what tests that end in r answer, number 0 where they pass; and the number of the one that fails, 0 where none does
 --   scan n f a b         a k, for the first place k below n at which the test f fails; b where there is none
 --   after x y            the answer x, where it refuses, else y
 --   Test, test b c       a test: whether it holds, and the number of the answer where it does not

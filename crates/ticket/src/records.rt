@@ -179,10 +179,10 @@ fn first_refusal(records: &[u8], form: Form, start: u32) -> Result<(), Refusal>
     requires { Holds records.now form × (start < 2 ^ 16) }
     ensures { answered result ≡ part_answer form start records.now }
 {
-    let columns = u32::from(form.columns);
-    for row in 0..form.rows {
-        let first = u32::from(row) * columns;
-        for column in 0..form.columns {
+    let Form { rows, columns, .. } = form;
+    for row in 0..rows {
+        let first = u32::from(row) * u32::from(columns);
+        for column in 0..columns {
             let i = first + u32::from(column);
             if let Err(reason) = test_record(records, form, i, row, column) {
                 return Err(Refusal {
