@@ -3,102 +3,82 @@ ghost use Rattle.std.specs.Prelude.{◌≡◌, ◌+◌, ◌*◌, ◌^◌, ◌<�
 ghost use Rattle.residue.specs.Rules.{least_residue};
 ghost use Rattle.algebra.specs.Laws.Fills.{Filled};
 ghost use Rattle.exact.specs.Laws.Matrices.{turned_number};
-ghost use Rattle.ticket.specs.Rules.{first_refusal};
+ghost use Rattle.ticket.specs.Rules.{answered, first_refusal, reason_number};
 ghost use Rattle.ticket.specs.Laws.All.{all};
 ghost use Rattle.ticket.specs.Laws.Limits.{Within};
 ghost use Rattle.writer.specs.Rules.{beyond_number, operands_reading};
-ghost use Rattle.writer.specs.Laws.Answers.{lengths_reading};
+ghost use Rattle.writer.specs.Laws.Answers.{length_reading, lengths_reading};
 ghost use Rattle.writer.specs.Laws.Operands.{within_at, column_of, BiasReady, NarrowReady, TurnReady, biased_word};
 
-use ticket::{Answer, PartNumber, Setting};
+use crate::Job;
+use ticket::{PartNumber, Reason, Refusal, Setting};
 
-// The answer of the tests 13, 14 and 18; its number is 0 where they pass.
-pub(crate) fn read(setting: Setting, a: &[i32], b: &[i32], bias: &[i32]) -> Answer
-    requires { Within setting }
-    ensures { result ≡ operands_reading setting a.now b.now bias.now }
+// The tests 13, 14 and 18, in order.
+pub(crate) fn read(job: &Job) -> Result<(), Refusal>
+    requires { Within job.now.setting }
+    ensures { answered result ≡ operands_reading job.now.setting job.now.a.now job.now.b.now job.now.bias.now }
 {
-    let of_lengths = lengths(setting, a, b, bias);
-    if of_lengths.number != 0 {
-        return of_lengths;
-    }
-    let of_entries = entries(setting.bound, a, b);
-    if of_entries.number != 0 {
-        return of_entries;
-    }
+    lengths(job)?;
+    entries(job.setting.bound, job.a, job.b)?;
     first_beyond(
-        setting.largest_bias(),
-        18,
-        bias,
-        setting.start(PartNumber::BIAS),
+        job.setting.largest_bias(),
+        Reason::BiasEntry,
+        job.bias,
+        job.setting.start(PartNumber::BIAS),
     )
 }
 
-// That of test 13.
-fn lengths(setting: Setting, a: &[i32], b: &[i32], bias: &[i32]) -> Answer
+// Test 13.
+fn lengths(job: &Job) -> Result<(), Refusal>
+    requires { Within job.now.setting }
+    ensures { answered result ≡ lengths_reading job.now.setting job.now.a.now job.now.b.now job.now.bias.now }
+{
+    length(job.setting, PartNumber::A, job.a)?;
+    length(job.setting, PartNumber::B, job.b)?;
+    length(job.setting, PartNumber::BIAS, job.bias)
+}
+
+// The same of one operand, which is a part of the ticket: its place is the part's number.
+fn length(setting: Setting, which: PartNumber, operand: &[i32]) -> Result<(), Refusal>
     requires { Within setting }
-    ensures { result ≡ lengths_reading setting a.now b.now bias.now }
+    ensures { answered result ≡ length_reading setting which.0 operand.now }
 {
-    if a.len() != setting.size(PartNumber::A) as usize {
-        return Answer {
-            number: 13,
-            place: 0,
-            row: 0,
-            products: 0,
-        };
+    if operand.len() != setting.size(which) as usize {
+        return Err(Refusal {
+            reason: Reason::OperandLength,
+            place: which.0,
+        });
     }
-    if b.len() != setting.size(PartNumber::B) as usize {
-        return Answer {
-            number: 13,
-            place: 1,
-            row: 0,
-            products: 0,
-        };
-    }
-    if bias.len() != setting.size(PartNumber::BIAS) as usize {
-        return Answer {
-            number: 13,
-            place: 2,
-            row: 0,
-            products: 0,
-        };
-    }
-    Answer::PASSED
+    Ok(())
 }
 
-// That of test 14: the entries of A, then on in B.
-fn entries(bound: u32, a: &[i32], b: &[i32]) -> Answer
+// Test 14: the entries of A, then on in B.
+fn entries(bound: u32, a: &[i32], b: &[i32]) -> Result<(), Refusal>
     requires { length a.now + length b.now < 2 ^ 32 }
-    ensures { result ≡ first_refusal 0 (length (a.now ++ b.now)) (beyond_number bound 14 (a.now ++ b.now)) }
+    ensures { answered result ≡ first_refusal 0 (length (a.now ++ b.now)) (beyond_number bound 14 (a.now ++ b.now)) }
 {
-    let in_a = first_beyond(bound, 14, a, 0);
-    if in_a.number != 0 {
-        return in_a;
-    }
-    first_beyond(bound, 14, b, a.len() as u32)
+    first_beyond(bound, Reason::OperandEntry, a, 0)?;
+    first_beyond(bound, Reason::OperandEntry, b, a.len() as u32)
 }
 
-// The first entry beyond a bound, which has the given number, its place counted from start; number 0 where there is none. The entries
-// are tested without a branch first; one by one only where some entry is beyond the bound.
-fn first_beyond(bound: u32, number: u32, operand: &[i32], start: u32) -> Answer
-    requires { (start + length operand.now < 2 ^ 32) × (1 ≤ number) }
-    ensures { result ≡ first_refusal start (length operand.now) (beyond_number bound number operand.now) }
+// Refuses the first entry beyond a bound for the given reason, its place counted from start. The entries are tested without a branch
+// first; one by one only where some entry is beyond the bound.
+fn first_beyond(bound: u32, reason: Reason, operand: &[i32], start: u32) -> Result<(), Refusal>
+    requires { start + length operand.now < 2 ^ 32 }
+    ensures { answered result ≡ first_refusal start (length operand.now) (beyond_number bound (reason_number reason) operand.now) }
 {
     if all_within(operand, bound) {
-        return Answer::PASSED;
+        return Ok(());
     }
-    let mut k = 0;
-    while k < operand.len() {
-        if bound < magnitude(operand[k]) {
-            return Answer {
-                number,
+    for (k, entry) in operand.iter().enumerate() {
+        if bound < entry.unsigned_abs() {
+            return Err(Refusal {
+                reason,
                 place: start + (k as u32),
-                row: 0,
-                products: 0,
-            };
+            });
         }
-        k += 1;
     }
-    Answer::PASSED
+    Ok(())
 }
 
 // Whether no entry is beyond the bound.
@@ -106,23 +86,10 @@ fn all_within(operand: &[i32], bound: u32) -> bool
     ensures { result ≡ all (length operand.now) (within_at bound operand.now) }
 {
     let mut within = true;
-    let mut k = 0;
-    while k < operand.len() {
-        within = within & (magnitude(operand[k]) <= bound);
-        k += 1;
+    for entry in operand {
+        within &= entry.unsigned_abs() <= bound;
     }
     within
-}
-
-// The absolute value, of -2^31 too.
-fn magnitude(n: i32) -> u32
-    ensures { result ≡ unsigned_abs n }
-{
-    let wide = n as i64;
-    if wide < 0 {
-        return (0 - wide) as u32;
-    }
-    wide as u32
 }
 
 // A sum with entry k of the bias added, modulo 2^32; the sum itself, where there is no bias.
@@ -130,21 +97,10 @@ pub(crate) fn with_bias(bias: &[i32], k: usize, sum: u32) -> u32
     requires { BiasReady bias.now k 1 }
     ensures { result ≡ biased_word bias.now k sum }
 {
-    if bias.len() == 0 {
+    if bias.is_empty() {
         return sum;
     }
-    std::num::wrapping_add_u32(sum, low_word(bias[k]))
-}
-
-// A number modulo 2^32.
-fn low_word(n: i32) -> u32
-    ensures { result ≡ least_residue (2 ^ 32) n }
-{
-    let size = magnitude(n);
-    if n < 0 {
-        return std::num::wrapping_sub_u32(0, size);
-    }
-    size
+    sum.wrapping_add(bias[k].cast_unsigned())
 }
 
 // All columns of a matrix, one after the other, at the beginning of the list.
@@ -153,17 +109,15 @@ pub(crate) fn narrow_columns(matrix: &[i32], height: usize, width: usize, list: 
     ensures { Filled (pos 0) list.old (width * height) (turned_number matrix.now height width) list.new }
 {
     let mut start = 0;
-    let mut column = 0;
-    while column < width {
+    for column in 0..width {
         let end = start + height;
         narrow(matrix, width, column, &mut list[start..end]);
         start = end;
-        column += 1;
     }
 }
 
-// A column of a matrix as 16-bit numbers. A row is the one column of a matrix as wide as 1. The loop ends by the place in the matrix:
-// so the compiler leaves it as it is, which serves small matrices best.
+// A column of a matrix as 16-bit numbers. A row is the one column of a matrix as wide as 1. A while, since it ends by the place in the
+// matrix: so the compiler leaves it as it is. A for over the list was slower by a tenth where matrices are small.
 pub(crate) fn narrow(matrix: &[i32], width: usize, column: usize, list: &mut [i16])
     requires { NarrowReady matrix.now width column list.old }
     ensures { Filled (pos 0) list.old (length list.old) (column_of matrix.now width column) list.new }

@@ -12,6 +12,9 @@ use ticket::RECORD;
 // By how much the first word of a record grows from one column to the next.
 pub(crate) const COLUMN: u32 = 16_777_216;
 
+// How many bytes a word of a record has.
+const WORD: usize = RECORD / 2;
+
 // Operands of at most so many entries are written record by record: to make several at a time does not pay.
 const FEW: usize = 8;
 
@@ -32,12 +35,10 @@ pub(crate) fn write_operand(
         return;
     }
     let mut first = 0;
-    let mut row = 0;
-    while row < height {
+    for row in 0..height {
         let end = first + width;
         write_line(output, start + first, kind, row, &operand[first..end]);
         first = end;
-        row += 1;
     }
 }
 
@@ -48,14 +49,12 @@ fn write_few(output: &mut [u8], start: usize, kind: u8, width: usize, operand: &
 {
     let mut row = 0;
     let mut column = 0;
-    let mut k = 0;
-    while k < operand.len() {
+    for (k, entry) in operand.iter().enumerate() {
         let header = ticket::word(kind, 0, row, column);
-        let value = residue(Entry(operand[k]));
+        let value = residue(Entry(*entry));
         write_record(output, start + k, header, value);
-        k += 1;
         column += 1;
-        if (column as usize) == width {
+        if usize::from(column) == width {
             column = 0;
             row += 1;
         }
@@ -69,12 +68,10 @@ fn write_line(output: &mut [u8], first: usize, kind: u8, row: u8, entries: &[i32
     ensures { LineWrote kind row first entries.now output.old output.new }
 {
     let mut header = ticket::word(kind, 0, row, 0);
-    let mut column = 0;
-    while column < entries.len() {
-        let value = residue(Entry(entries[column]));
+    for (column, entry) in entries.iter().enumerate() {
+        let value = residue(Entry(*entry));
         write_record(output, first + column, header, value);
         header += COLUMN;
-        column += 1;
     }
 }
 
@@ -92,24 +89,20 @@ fn put(bytes: &mut [u8], header: u32, value: u32)
     requires { length bytes.old ≡ record_bytes }
     ensures { bytes.new ≡ words_of header value }
 {
-    bytes[0] = (header % 256) as u8;
-    bytes[1] = (header / 256 % 256) as u8;
-    bytes[2] = (header / 65_536 % 256) as u8;
-    bytes[3] = (header / 16_777_216 % 256) as u8;
-    bytes[4] = (value % 256) as u8;
-    bytes[5] = (value / 256 % 256) as u8;
-    bytes[6] = (value / 65_536 % 256) as u8;
-    bytes[7] = (value / 16_777_216 % 256) as u8;
+    bytes[..WORD].copy_from_slice(&header.to_le_bytes());
+    bytes[WORD..].copy_from_slice(&value.to_le_bytes());
 }
 
-// The least residue of a small entry.
+// The least residue of a small entry; in 32 bits, since the compiler then makes several at a time.
 fn residue(entry: Entry) -> Residue
     requires { unsigned_abs entry.0 < 2 ^ 30 }
     ensures { result.0 ≡ least_residue modulus entry.0 }
 {
     let n = entry.0;
-    if n < 0 {
-        return Residue((n + (Residue::modulus() as i32)) as u32);
-    }
-    Residue(n as u32)
+    let least = if n < 0 {
+        (n + (Residue::modulus() as i32)) as u32
+    } else {
+        n as u32
+    };
+    Residue(least)
 }

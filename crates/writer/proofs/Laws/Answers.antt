@@ -27,7 +27,7 @@ use Rattle.ticket.specs.Laws.Tests.{AllHold}
 use Rattle.ticket.proofs.Laws.Tests.{Failed, holding_number, failed_number, failed_numbered}
 use Rattle.writer.specs.Rules.{beyond_number, operands_reading, written, writing, ticket_of, output_after}
 use Rattle.writer.proofs.Laws.Operands.{number_within, within_of, beyond_none, beyond_at}
-use Rattle.writer.specs.Laws.Answers.{Writable, lengths_reading}
+use Rattle.writer.specs.Laws.Answers.{Writable, length_reading, lengths_reading}
 pub mod OutputWritten
 
 pub record Lengths (G : Setting) (A B C : List ℤ) : Type 0 where
@@ -123,6 +123,16 @@ module _ (G : Setting) (A B C : List ℤ) where
       ∙ ap (unless long_a (refusal 13 0)) (unless_after long_b _ _ _ (λ z. omega arith)
       ∙ ap (unless long_b (refusal 13 1)) (unless_after long_c _ _ _ (λ z. omega arith)
       ∙ ap (unless long_c (refusal 13 2)) (after_passed (refusal 0 0) (after entries added) refl))))
+
+  pub lengths_in_order : lengths_reading G A B C ≡ after (length_reading G of_a A) (after (length_reading G of_b B) (length_reading G of_bias C))
+  unfolding lengths_reading length_reading
+  lengths_in_order =
+      let long_a = nat_eq (length A) (part_size (part G of_a)) in
+      let long_b = nat_eq (length B) (part_size (part G of_b)) in
+      sym (unless_after long_a _ _ _ (λ z. omega arith)
+      ∙ ap (unless long_a (refusal 13 0)) (after_passed (refusal 0 0) _ refl
+      ∙ unless_after long_b _ _ _ (λ z. omega arith)
+      ∙ ap (unless long_b (refusal 13 1)) (after_passed (refusal 0 0) _ refl)))
 
   pub passed_lengths : (lengths_reading G A B C).number ≡ 0 → Lengths G A B C
   unfolding lengths_reading

@@ -10,26 +10,24 @@
 --   small_more        and they are of more bits
 --   narrow_stored     such an entry, as it is read and stored
 --   biased_word C k s, no_bias_word   the sum s with entry k of the bias added modulo 2^32, which is s where there is none
---   low_negative, low_positive   a number modulo 2^32, from its absolute value
---   size_small        the absolute value of a 32-bit number
---   magnitude_negative, magnitude_fits, magnitude_positive   that value of a number below zero, and of another
+--   word_read         a 32-bit number modulo 2^32, as it is read and cast
 --   entry_fits, entry_read   an entry of at most 30 bits fits 32, and is itself as it is read
 --   residue_negative, residue_fits, residue_positive   the least residue of an entry below zero, and of another
-use Rattle.std.specs.Prelude.{◌≡◌, ℕ, suc, ◌+◌, ◌-◌, ◌%◌, ◌^◌, ◌<◌, ◌≤◌, Bool, true, false, List, ◌++◌, length, take, drop, ℤ, pos, negsuc, ◌+ℤ◌, ◌-ℤ◌, ◌≢◌, int_lt, nat_le, slice_index_or, unsigned_abs, refl}
+use Rattle.std.specs.Prelude.{◌≡◌, ℕ, suc, ◌+◌, ◌-◌, ◌^◌, ◌<◌, ◌≤◌, Bool, true, false, List, ◌++◌, length, take, drop, ℤ, pos, negsuc, ◌+ℤ◌, ◌≢◌, int_lt, nat_le, slice_index_or, unsigned_abs, refl}
 use Rattle.std.proofs.Math.Decide.{ℕ_discrete, dec_le}
 use Rattle.std.proofs.Common.{arith, sym, ap, subst, ◌∙◌, true≢false, le-leb, leb-true, ltb-true, pow_mono, length-append, get_or-append-add, SFits, to_z, of_z, to_z-of_z}
 use Rattle.std.proofs.Math.Path.{subst⁻¹}
 use Rattle.std.proofs.lemmas.Bool.{lt-leb}
 use Rattle.std.proofs.Math.ListN.{get_or-append, get_or-eq_default}
 use Rattle.std.specs.Int.Signed.{mag}
-use Rattle.std.specs.Int.{w16, w32, w64}
+use Rattle.std.specs.Int.{w16, w32}
 use Rattle.std.proofs.Math.Facts.{to_z_pos}
 use Rattle.residue.specs.Rules.{modulus, least_residue}
-use Rattle.residue.proofs.Laws.Integers.{equal_of_parts, parts_sum, parts_difference}
+use Rattle.residue.proofs.Laws.Integers.{equal_of_parts, parts_sum}
 use Rattle.residue.proofs.Laws.Modulus.{modulus_above, modulus_below}
 use Rattle.residue.proofs.Laws.Modulus.PartnerModuli.{modulus_positive}
 use Rattle.residue.proofs.Laws.Residues.{residue_below, residue_of_residue, residue_shift}
-use Rattle.residue.proofs.Laws.Signed.{widened, narrowed_is, narrowed_fits}
+use Rattle.residue.proofs.Laws.Signed.{narrowed_is, narrowed_fits}
 use Rattle.algebra.proofs.Laws.Fills.{part_of, part_long}
 use Rattle.ticket.specs.Rules.{unless, refusal, after, first_refusal}
 use Rattle.ticket.specs.Laws.All.{all}
@@ -133,11 +131,7 @@ no_bias_word C k sum none small =
     let zero = residue_of_residue (2 ^ 32) (omega arith) 0 (omega arith) in
     rw (get_or-eq_default C (pos 0) {n = k} (omega arith), zero) (omega arith)
 
--- absolute values and least residues
-
--- an entry, as it is read after the cast to 64 bits
-abbrev wide : ℤ → ℤ
-wide z = to_z w64 (of_z w64 (to_z w32 (of_z w32 z)))
+-- least residues
 
 -- an integer below zero, and one that is not
 below_zero : (z : ℤ) → int_lt z (pos 0) ≡ true → (n : ℕ) × (z ≡ negsuc n)
@@ -147,31 +141,6 @@ below_zero (negsuc n) e = (n, refl)
 not_below_zero : (z : ℤ) → int_lt z (pos 0) ≡ false → z ≡ pos (unsigned_abs z)
 not_below_zero (pos n) e = refl
 not_below_zero (negsuc n) e = absurd (true≢false e)
-
-module _ (z : ℤ) (fits : SFits w32 z) where
-  wide_is : wide z ≡ z
-  wide_is = to_z-of_z (widened {wide = w64} tt fits) ∙ to_z-of_z fits
-
-  pub size_small : unsigned_abs z < 2 ^ 32
-  size_small = size z fits.sfits
-    where
-      size : (z : ℤ) → mag z < 2 ^ 31 → unsigned_abs z < 2 ^ 32
-      size (pos n) l = omega arith
-      size (negsuc n) l = omega arith
-
-  module _ (negative : int_lt (wide z) (pos 0) ≡ true) where
-    pub magnitude_negative : pos 0 -ℤ wide z ≡ pos (unsigned_abs z)
-    magnitude_negative =
-        let h = below_zero z (ap (λ y. int_lt y (pos 0)) (sym wide_is) ∙ negative) in
-        ap (λ y. pos 0 -ℤ y) (wide_is ∙ h.1)
-        ∙ equal_of_parts (pos 0 -ℤ negsuc h.0) (pos (suc h.0)) (omega (arith, parts_difference (pos 0) (negsuc h.0)))
-        ∙ ap (λ y. pos (unsigned_abs y)) (sym h.1)
-
-    pub magnitude_fits : SFits w64 (pos 0 -ℤ wide z)
-    magnitude_fits = subst⁻¹ (SFits w64) magnitude_negative (record { sfits = omega (arith, size_small) })
-
-  pub magnitude_positive : int_lt (wide z) (pos 0) ≡ false → to_z w32 (of_z w32 z) ≡ pos (unsigned_abs z)
-  magnitude_positive e = to_z-of_z fits ∙ not_below_zero z (ap (λ y. int_lt y (pos 0)) (sym wide_is) ∙ e)
 
 pub entry_fits : (z : ℤ) → unsigned_abs z < 2 ^ 30 → SFits w32 z
 entry_fits (pos n) l = record { sfits = omega arith }
@@ -206,19 +175,11 @@ module _ (z : ℤ) (small : unsigned_abs z < 2 ^ 30) where
 
 -- modulo 2^32
 
-module _ (z : ℤ) (fits : SFits w32 z) {size : ℕ} (size_is : size ≡ unsigned_abs z) where
-  pub low_negative : {r : ℕ} → int_lt (to_z w32 (of_z w32 z)) (pos 0) ≡ true → r < 2 ^ 32 → (r + size) % 2 ^ 32 ≡ 0 → r ≡ least_residue (2 ^ 32) z
-  low_negative {r} negative small wraps =
-      let h = below_zero z (ap (λ y. int_lt y (pos 0)) (sym (to_z-of_z fits)) ∙ negative) in
-      let n = h.0 in
-      let size : size ≡ suc n = size_is ∙ ap unsigned_abs h.1 in
-      let less : r ≡ 2 ^ 32 - suc n = omega (arith, size_small z fits) in
-      less
-      ∙ sym (ap (least_residue (2 ^ 32)) h.1
-      ∙ residue_shift (2 ^ 32) (omega arith) (negsuc n) (pos (2 ^ 32 - suc n)) 1 0 (omega (arith, size_small z fits))
-      ∙ residue_of_residue (2 ^ 32) (omega arith) (2 ^ 32 - suc n) (omega arith))
+low_word : (z : ℤ) → SFits w32 z → of_z w32 z ≡ least_residue (2 ^ 32) z
+low_word (pos n) fits = sym (residue_of_residue (2 ^ 32) (omega arith) n (omega (arith, fits.sfits)))
+low_word (negsuc n) fits =
+    sym (residue_shift (2 ^ 32) (omega arith) (negsuc n) (pos (2 ^ 32 - suc n)) 1 0 (omega (arith, fits.sfits))
+    ∙ residue_of_residue (2 ^ 32) (omega arith) (2 ^ 32 - suc n) (omega arith))
 
-  pub low_positive : int_lt (to_z w32 (of_z w32 z)) (pos 0) ≡ false → size ≡ least_residue (2 ^ 32) z
-  low_positive e =
-      let is : z ≡ pos (unsigned_abs z) = not_below_zero z (ap (λ y. int_lt y (pos 0)) (sym (to_z-of_z fits)) ∙ e) in
-      size_is ∙ sym (ap (least_residue (2 ^ 32)) is ∙ residue_of_residue (2 ^ 32) (omega arith) (unsigned_abs z) (size_small z fits))
+pub word_read : (z : ℤ) → SFits w32 z → of_z w32 (to_z w32 (of_z w32 z)) ≡ least_residue (2 ^ 32) z
+word_read z fits = ap (of_z w32) (to_z-of_z fits) ∙ low_word z fits

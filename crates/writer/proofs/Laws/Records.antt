@@ -17,14 +17,15 @@
 --   integer_a, integer_b, integer_bias, integer_quotient, integer_remainder   the integers of each part
 --   length_words         how many they are
 --   words_record         the words of a record are its bytes
---   words_put            eight bytes set one after the other are those of two words
-use Rattle.std.specs.Prelude.{◌≡◌, ℕ, zero, suc, ◌+◌, ◌-◌, ◌*◌, ◌/◌, ◌%◌, ◌^◌, ◌<◌, ◌≤◌, true, List, ◌++◌, length, ℤ, slice_index}
-use Rattle.std.proofs.Common.{mul-le-mul_left, arith, ap, ◌∙◌, append-nil, length-append, drop_of_length-le, get_or-append-add}
+--   words_put            the bytes of two words, each put into its half
+use Rattle.std.specs.Prelude.{◌≡◌, ℕ, zero, suc, ◌+◌, ◌-◌, ◌*◌, ◌/◌, ◌%◌, ◌^◌, ◌<◌, ◌≤◌, true, List, [], ◌++◌, length, take, drop, ℤ, slice_index}
+use Rattle.std.proofs.Common.{mul-le-mul_left, arith, ap, ◌∙◌, length-append, drop_of_length-le, get_or-append-add}
 use Rattle.std.proofs.Math.Decide.{ℕ_discrete}
 use Rattle.std.proofs.Math.Path.{refl, sym}
 use Rattle.std.proofs.Math.Arith.{digits_div, digits_mod}
 use Rattle.std.proofs.Math.ListN.{get_or-append}
-use Rattle.std.proofs.lemmas.List.Edits.{sets, sets-eq}
+use borrow.Rule.Slice.PartMut.{put_mid}
+use Rattle.std.specs.Int.{w32, to_le_bytes}
 use Rattle.residue.specs.Rules.{modulus, least_residue}
 use Rattle.residue.proofs.Laws.Modulus.PartnerModuli.{modulus_positive}
 use Rattle.residue.proofs.Laws.Modulus.{modulus_below}
@@ -196,9 +197,11 @@ pub length_words : (header value : ℕ) → length (words_of header value) ≡ r
 unfolding words_of
 length_words header value = refl
 
-pub words_put : (x : List ℕ) → length x ≡ record_bytes → (header value : ℕ) → sets x 0 (words_of header value) ≡ words_of header value
+-- the bytes of both words, one after the other, in place of all bytes
+pub words_put : (bytes : List ℕ) → length bytes ≡ record_bytes → (header value : ℕ) → let first = to_le_bytes w32 header ++ drop 4 bytes in
+    put_mid 4 (length first - 4) first (to_le_bytes w32 value) ≡ words_of header value
 unfolding words_of
-words_put x e header value =
-    let written = words_of header value in
-    sets-eq written x 0 (omega arith)
-    ∙ ap (λ y. written ++ y) (drop_of_length-le x {i = 0 + length written} (omega arith)) ∙ append-nil written
+words_put bytes long header value =
+    let first = to_le_bytes w32 header ++ drop 4 bytes in
+    let none : drop (length first - 4) (drop 4 bytes) ≡ [] = drop_of_length-le (drop 4 bytes) (omega arith) in
+    ap (λ rest. take 4 first ++ (to_le_bytes w32 value ++ rest)) none

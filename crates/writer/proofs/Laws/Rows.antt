@@ -78,17 +78,22 @@ pub record RowRoom (G : Setting) (A : List ℤ) (row from : ℕ) (line : List �
   pub early : (quotients + G.columns < 2 ^ 16) × (remainders + G.columns < 2 ^ 16)
 
 module _ {G : Setting} {A B C : List ℤ} (w : Writable G A B C) where
-  pub tiny_room : {n : ℕ} → length B ≤ n → Room G n n n
-  tiny_room few =
+  pub tiny_room : {n : ℕ} → length B ≤ n → n < 2 ^ 16 → Room G n n n
+  tiny_room few small =
       let sizes = (limits w).sizes in
       let inner = mul-le-mul_left G.inner sizes.columns.0 in
       let columns = mul-le-mul_right G.columns sizes.inner.0 in
-      record { for_line = omega (arith, long_b w); for_columns = omega (arith, long_b w); for_sums = omega (arith, long_b w) }
+      record {
+        for_line = omega (arith, long_b w);
+        for_columns = omega (arith, long_b w);
+        for_sums = omega (arith, long_b w);
+        small = omega arith;
+      }
 
-  pub most_room : {n : ℕ} → length B ≤ n → Room G most_inner n most_columns
-  most_room few =
+  pub most_room : {n : ℕ} → length B ≤ n → n < 2 ^ 16 → Room G most_inner n most_columns
+  most_room few small =
       let sizes = (limits w).sizes in
-      record { for_line = sizes.inner.1; for_columns = omega (arith, long_b w); for_sums = sizes.columns.1 }
+      record { for_line = sizes.inner.1; for_columns = omega (arith, long_b w); for_sums = sizes.columns.1; small = omega arith }
 
   pub most_entries : length B ≤ most_inner * most_columns
   most_entries = omega (arith, long_b w, counts (limits w).sizes)

@@ -5,7 +5,8 @@
 --   RowOf G A B C i a s q r      s is the sums of row i of A, modulo 2^32, and a, q and r are where its bias and its claims begin
 --   RowTo G C i a s q r n o o'   the first n claims of the row are written, whatever operands these are of
 --   RowWrote G C i a s q r o o'  all are
---   Room G a b c               lists of a, b and c numbers have room for a row of A, for the columns of B and for the sums of a row
+--   Room G a b c               arrays of a, b and c numbers have room for a row of A, for the columns of B and for the sums of a row, and
+--                              are not large
 --   RowsReady G h A B C x Y s o   A and B are to be written, h is half of the quotients' range, and there is room for a row of A, for the
 --                              columns of B, for sums and for the ticket
 --   ClaimsWrote G A B C n o o'   the claims of the first n rows are written
@@ -51,6 +52,7 @@ pub record Room (G : Setting) (line columns sums : ℕ) : Type 0 where
   pub for_line : G.inner ≤ line
   pub for_columns : G.inner * G.columns ≤ columns
   pub for_sums : G.columns ≤ sums
+  pub small : line + columns + sums < 2 ^ 32
 
 pub record RowsReady (G : Setting) (half : ℕ) (A B C line columns : List ℤ) (sums output : List ℕ) : Type 0 where
   pub writable : Writable G A B C

@@ -1,13 +1,8 @@
 -- The loop keeps the claims of the rows before this one in the output, and where its row of A and its records begin.
-use Rattle.std.proofs.Common.{◌-◌}
 use Rattle.writer.specs.Laws.Rows.{ClaimsWrote}
 use Rattle.writer.proofs.Laws.Rows.{RowsAt}
 use Rattle.writer.proofs.claims.write_rows.Given as goal
 
 abbrev pub invariant-loop-row : goal.invariant-loop-row
 invariant-loop-row l =
-    RowsAt l.setting l.row l.from l.line l.sums l.quotients l.remainders × ClaimsWrote l.setting l.a l.b l.bias l.row l.initial.output l.output
-
-abbrev pub decreases-loop-row : goal.decreases-loop-row
-decreases-loop-row l =
-    l.setting.rows - l.row
+    RowsAt l.job.setting l.row l.from l.line l.sums l.quotients l.remainders × ClaimsWrote l.job.setting l.job.a.now l.job.b.now l.job.bias.now l.row l.initial.output l.output

@@ -1,17 +1,14 @@
-use Rattle.std.proofs.Common.{sym, ap, ◌∙◌}
-use Rattle.ticket.proofs.Laws.Scans.{after_passed, after_refused}
+use Rattle.std.proofs.Common.{sym, ◌∙◌}
+use Rattle.std.proofs.lemmas.Result.{err_from_is_err_and}
+use Rattle.ticket.proofs.Laws.Answers.{after_err, after_ok}
 use Rattle.writer.proofs.Laws.Operands.{beyond_both}
 use Rattle.writer.proofs.operands.entries.Goals as goal
 
-pub returns-then-in_a-ne0 : goal.returns-then-in_a-ne0
-returns-then-in_a-ne0 c =
-    let of = c.args in
-    let found = c.first_beyond-in_a.ensures in
-    found ∙ sym (beyond_both of.bound 14 of.a.now of.b.now ∙ after_refused _ _ (λ z. c.if-in_a-ne0.true (ap (λ a. a.number) found ∙ z)))
+pub returns-in_err-first_beyond : goal.returns-in_err-first_beyond
+returns-in_err-first_beyond c =
+    let p = err_from_is_err_and c.from_residual.result c.from_residual.ensures.1 in
+    rw (p.1, p.2) (after_err _ c.in_err-first_beyond.ensures _ ∙ sym (beyond_both c.args.bound 14 c.args.a.now c.args.b.now))
 
 pub returns : goal.returns
 returns c =
-    let of = c.args in
-    c.first_beyond.ensures
-    ∙ sym (beyond_both of.bound 14 of.a.now of.b.now
-    ∙ after_passed _ _ (sym (ap (λ a. a.number) c.first_beyond-in_a.ensures) ∙ c.if-in_a-ne0.false))
+    after_ok c.in_ok-first_beyond.ensures c.first_beyond-2.ensures ∙ sym (beyond_both c.args.bound 14 c.args.a.now c.args.b.now)

@@ -1,44 +1,18 @@
-use Rattle.std.proofs.Common.{◌≡◌, length, sym, ap, ◌∙◌, eq-eqb, ne_eqb}
-use Rattle.ticket.specs.Rules.{part, part_size, of_a, of_b, of_bias}
-use Rattle.ticket.specs.Laws.Limits.{clamped}
-use Rattle.ticket.proofs.Laws.Limits.{clamped_same}
-use Rattle.writer.specs.Laws.Answers.{lengths_reading}
+use Rattle.std.proofs.Common.{sym, ◌∙◌}
+use Rattle.std.proofs.lemmas.Result.{err_from_is_err_and}
+use Rattle.ticket.proofs.Laws.Answers.{after_err, after_ok}
+use Rattle.writer.proofs.Laws.Answers.{lengths_in_order}
 use Rattle.writer.proofs.operands.lengths.Goals as goal
 
-pub returns-then-a-size : goal.returns-then-a-size
-unfolding lengths_reading
-returns-then-a-size c =
-    let same : clamped c.args.setting ≡ c.args.setting = clamped_same c.requires.sizes c.requires.numbers in
-    let size_a : c.size.result ≡ part_size (part c.args.setting of_a) = c.size.ensures ∙ ap (λ H. part_size (part H of_a)) (same) in
-    sym (rw (ne_eqb _ _ (λ e. c.if-a-size.true (e ∙ sym (size_a)))))
+pub returns-in_err-length : goal.returns-in_err-length
+returns-in_err-length c =
+    let p = err_from_is_err_and c.from_residual.result c.from_residual.ensures.1 in
+    rw (p.1, p.2) (after_err _ c.in_err-length.ensures _ ∙ sym (lengths_in_order _ _ _ _))
 
-pub returns-then-b-size : goal.returns-then-b-size
-unfolding lengths_reading
-returns-then-b-size c =
-    let same : clamped c.args.setting ≡ c.args.setting = clamped_same c.requires.sizes c.requires.numbers in
-    let size_b : c.size-2.result ≡ part_size (part c.args.setting of_b) = c.size-2.ensures ∙ ap (λ H. part_size (part H of_b)) (same) in
-    let size_a : c.size.result ≡ part_size (part c.args.setting of_a) = c.size.ensures ∙ ap (λ H. part_size (part H of_a)) (same) in
-    let long_a : length c.args.a.now ≡ part_size (part c.args.setting of_a) = c.if-a-size.false ∙ size_a in
-    sym (rw (eq-eqb _ _ (long_a), ne_eqb _ _ (λ e. c.if-b-size.true (e ∙ sym (size_b)))))
-
-pub returns-then-bias-size : goal.returns-then-bias-size
-unfolding lengths_reading
-returns-then-bias-size c =
-    let same : clamped c.args.setting ≡ c.args.setting = clamped_same c.requires.sizes c.requires.numbers in
-    let size_c : c.size-3.result ≡ part_size (part c.args.setting of_bias) = c.size-3.ensures ∙ ap (λ H. part_size (part H of_bias)) (same) in
-    let size_a : c.size.result ≡ part_size (part c.args.setting of_a) = c.size.ensures ∙ ap (λ H. part_size (part H of_a)) (same) in
-    let long_a : length c.args.a.now ≡ part_size (part c.args.setting of_a) = c.if-a-size.false ∙ size_a in
-    let size_b : c.size-2.result ≡ part_size (part c.args.setting of_b) = c.size-2.ensures ∙ ap (λ H. part_size (part H of_b)) (same) in
-    let long_b : let of = c.args in length of.b.now ≡ part_size (part of.setting of_b) = c.if-b-size.false ∙ size_b in
-    sym (rw (eq-eqb _ _ (long_a), eq-eqb _ _ (long_b), ne_eqb _ _ (λ e. c.if-bias-size.true (e ∙ sym (size_c)))))
+pub returns-in_err-length-2 : goal.returns-in_err-length-2
+returns-in_err-length-2 c =
+    let p = err_from_is_err_and c.from_residual-in_err-length-2.result c.from_residual-in_err-length-2.ensures.1 in
+    rw (p.1, p.2) (after_ok c.in_ok-length.ensures (after_err _ c.in_err-length-2.ensures _) ∙ sym (lengths_in_order _ _ _ _))
 
 pub returns : goal.returns
-unfolding lengths_reading
-returns c =
-    let same : clamped c.args.setting ≡ c.args.setting = clamped_same c.requires.sizes c.requires.numbers in
-    let size_c : c.size-3.result ≡ part_size (part c.args.setting of_bias) = c.size-3.ensures ∙ ap (λ H. part_size (part H of_bias)) (same) in
-    let size_a : c.size.result ≡ part_size (part c.args.setting of_a) = c.size.ensures ∙ ap (λ H. part_size (part H of_a)) (same) in
-    let long_a : length c.args.a.now ≡ part_size (part c.args.setting of_a) = c.if-a-size.false ∙ size_a in
-    let size_b : c.size-2.result ≡ part_size (part c.args.setting of_b) = c.size-2.ensures ∙ ap (λ H. part_size (part H of_b)) (same) in
-    let long_b : let of = c.args in length of.b.now ≡ part_size (part of.setting of_b) = c.if-b-size.false ∙ size_b in
-    sym (rw (eq-eqb _ _ (long_a), eq-eqb _ _ (long_b), eq-eqb _ _ (c.if-bias-size.false ∙ size_c)))
+returns c = after_ok c.in_ok-length.ensures (after_ok c.in_ok-length-2.ensures c.length-3.ensures) ∙ sym (lengths_in_order _ _ _ _)

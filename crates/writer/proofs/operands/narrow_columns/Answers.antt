@@ -6,16 +6,14 @@ use Rattle.writer.proofs.operands.narrow_columns.Goals as goal
 
 pub loop-column-preserved : goal.loop-column-preserved
 loop-column-preserved c =
-    let room : c.loop-column.start + c.args.height ≤ length c.args.list.now =
-    omega (arith, row_inside c.args.height c.loop-column-test.true, c.loop-column.invariant.1, c.requires.room) in
-    let long : let height = c.args.height in let at = c.loop-column in length (take (at.start + height - at.start) (drop at.start at.list)) ≡ height =
     let at = c.loop-column in
-    part_long at.list at.start c.args.height (omega (arith, room, at.invariant.2.long)) in
-    let at = c.loop-column in
+    let room : at.start + c.args.height ≤ length c.args.list.now =
+    omega (arith, row_inside c.args.height c.loop-column-test.true, at.invariant.0, c.requires.room) in
+    let long : length (take (at.start + c.args.height - at.start) (drop at.start at.list)) ≡ c.args.height =
+    part_long at.list at.start c.args.height (omega (arith, room, at.invariant.1.long)) in
     let filled = rw (long) at c.narrow.ensures in (
-      omega arith,
-      omega (arith, at.invariant.1),
-      filled_part at.invariant.2 filled
-          (part_replaced (pos 0) at.list at.start _ _ (filled.long ∙ long) (omega (arith, room, at.invariant.2.long)))
-          (λ i l. sym (rw (at.invariant.1, digits_mod at.column l, digits_div at.column l))),
+      omega (arith, at.invariant.0),
+      filled_part at.invariant.1 filled
+          (part_replaced (pos 0) at.list at.start _ _ (filled.long ∙ long) (omega (arith, room, at.invariant.1.long)))
+          (λ i l. sym (rw (at.invariant.0, digits_mod at.column l, digits_div at.column l))),
     )

@@ -6,11 +6,11 @@ use Rattle.writer.proofs.records.write_line.Goals as goal
 
 pub loop-column-preserved : goal.loop-column-preserved
 loop-column-preserved c =
-    let entry : ℤ = get_or c.args.entries.now c.loop-column.column (pos 0) in
-    let small : nat_abs (entry) < 2 ^ 30 = c.requires.entries_small.small c.loop-column.column c.loop-column-test.true in
-    let value = c.residue-value.ensures ∙ ap (least_residue modulus) (entry_read (entry) (small)) in (
-      omega arith,
-      omega (arith, c.loop-column.invariant.1),
-      line_record_lem _ _ _ c.args.entries.now c.loop-column.invariant.2 c.write_record.ensures (search rules) (search rules)
-          (omega (arith, c.requires.wide)) c.loop-column.invariant.1 value,
+    let at = c.loop-column in
+    let entry : ℤ = get_or c.args.entries.now at.column (pos 0) in
+    let small : nat_abs entry < 2 ^ 30 = c.requires.entries_small.small at.column c.loop-column-test.true in
+    let value = c.residue-value.ensures ∙ ap (least_residue modulus) (entry_read entry small) in (
+      omega (arith, at.invariant.0),
+      line_record_lem _ _ _ c.args.entries.now at.invariant.1 c.write_record.ensures (search rules) (search rules)
+          (omega (arith, c.requires.wide)) at.invariant.0 value,
     )
