@@ -1,7 +1,8 @@
 // The challenge list: tests 10, 11 and 21.
 ghost use Rattle.std.specs.Prelude.{◌≡◌, ◌+◌, ◌*◌, ◌^◌, ◌≤◌, ◌<◌, eqb, length, get_or};
+ghost use Rattle.std.specs.List.{list_all};
 ghost use Rattle.algebra.specs.Laws.Fills.{line_at};
-ghost use Rattle.ticket.specs.Rules.{first, first_refusal};
+ghost use Rattle.ticket.specs.Rules.{first_refusal};
 ghost use Rattle.ticket.specs.Laws.All.{all};
 ghost use Rattle.ticket.specs.Laws.Limits.{Counts};
 ghost use Rattle.challenge.specs.Rules.{list_number, vector_number, list_reading};
@@ -41,11 +42,8 @@ fn nonzero_residues(list: &[u32]) -> bool
 {
     let most = Residue::modulus() - 1;
     let mut all = true;
-    let mut k = 0;
-    while k < list.len() {
-        let number = list[k];
-        all = all & ((1 <= number) & (number <= most));
-        k += 1;
+    for number in list {
+        all &= (1 <= *number) & (*number <= most);
     }
     all
 }
@@ -55,17 +53,15 @@ fn read_numbers(list: &[u32]) -> Answer
     requires { length list.now < 2 ^ 32 }
     ensures { result ≡ first_refusal 0 (length list.now) (list_number list.now) }
 {
-    let mut k: u32 = 0;
-    while (k as usize) < list.len() {
-        if Residue::modulus() <= list[k as usize] {
+    for (k, number) in list.iter().enumerate() {
+        if Residue::modulus() <= *number {
             return Answer {
                 number: 11,
-                place: k,
+                place: k as u32,
                 row: 0,
                 products: 0,
             };
         }
-        k += 1;
     }
     Answer::PASSED
 }
@@ -76,9 +72,8 @@ fn read_vectors(setting: Setting, list: &[u32]) -> Answer
     ensures { result ≡ first_refusal 0 setting.vectors (vector_number setting list.now) }
 {
     let columns = setting.columns as usize;
-    let mut t: u32 = 0;
-    while t < setting.vectors {
-        if first_nonzero(line(list, columns, t)) == columns {
+    for t in 0..setting.vectors {
+        if is_zero(line(list, columns, t)) {
             return Answer {
                 number: 21,
                 place: t,
@@ -86,24 +81,19 @@ fn read_vectors(setting: Setting, list: &[u32]) -> Answer
                 products: 0,
             };
         }
-        t += 1;
     }
     Answer::PASSED
 }
 
-// The first number of a vector that is not 0, the number of all where there is none.
-fn first_nonzero(vector: &[u32]) -> usize
-    ensures { result ≡ first (length vector.now) (λ j. eqb (get_or vector.now j 0) 0) }
+// Whether every number of a vector is 0.
+fn is_zero(vector: &[u32]) -> bool
+    ensures { result ≡ list_all (λ x. eqb x 0) vector.now }
 {
-    let mut j = 0;
-    while j < vector.len() && vector[j] == 0 {
-        j += 1;
-    }
-    j
+    vector.iter().all(|number| *number == 0)
 }
 
 // Line number k of a list, which stands line after line, each of the given size.
-pub(crate) fn line(list: &[u32], size: usize, k: u32) -> &[u32]
+pub(crate) fn line<T>(list: &[T], size: usize, k: u32) -> &[T]
     requires { k * size + size ≤ length list.now }
     ensures { result.now ≡ line_at list.now size k }
 {

@@ -138,14 +138,14 @@ fn decode_row(
 {
     let inner = RECORD * (setting.inner as usize);
     let columns = RECORD * (setting.columns as usize);
-    let entries = records(ticket::part(setting, ticket, PartNumber::A), inner, row);
+    let entries = line(ticket::part(setting, ticket, PartNumber::A), inner, row);
     ticket::shifted_entries(entries, Residue(setting.bound), a);
-    let quotients = records(
+    let quotients = line(
         ticket::part(setting, ticket, PartNumber::QUOTIENTS),
         columns,
         row,
     );
-    let remainders = records(
+    let remainders = line(
         ticket::part(setting, ticket, PartNumber::REMAINDERS),
         columns,
         row,
@@ -153,23 +153,12 @@ fn decode_row(
     ticket::lifted_claims(quotients, remainders, half, setting.scale, w);
 }
 
-// Line number k of bytes, which stand line after line, each of the given size.
-fn records(bytes: &[u8], size: usize, k: u32) -> &[u8]
-    requires { k * size + size ≤ length bytes.now }
-    ensures { result.now ≡ line_at bytes.now size k }
-{
-    let start = (k as usize) * size;
-    &bytes[start..start + size]
-}
-
 // Numbers in 32 bits, to the beginning of a list.
 fn narrow(wide: &[u64], list: &mut [u32])
     requires { length wide.now ≤ length list.old }
     ensures { Filled 0 list.old (length wide.now) (λ k. get_or wide.now k 0 % 2 ^ 32) list.new }
 {
-    let mut k = 0;
-    while k < wide.len() {
-        list[k] = (wide[k] % WORD) as u32;
-        k += 1;
+    for (k, number) in wide.iter().enumerate() {
+        list[k] = (*number % WORD) as u32;
     }
 }
