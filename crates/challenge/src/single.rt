@@ -7,8 +7,8 @@ ghost use Rattle.challenge.specs.Laws.Sides.{RoomFor, RowDecoded};
 ghost use Rattle.challenge.specs.Laws.Single.{DecodeRowReady, LineReady, RowReady};
 
 use crate::lists::line;
-use crate::products::{WORD, offset, product, widen};
-use crate::rows::{COLUMNS, INNER, check_row};
+use crate::products::{WORD, product, widen};
+use crate::rows::{COLUMNS, INNER, Vector};
 use residue::Residue;
 use ticket::{Answer, PartNumber, RECORD, Setting};
 
@@ -118,10 +118,8 @@ fn line_balanced(setting: Setting, ticket: &[u8], x: &[u64], u: &[u64], row: u32
     let half = setting.half();
     decode_row(setting, ticket, half, row, &mut a, &mut w);
     let bias = ticket::part(setting, ticket, PartNumber::BIAS);
-    let width = setting.bias_columns() as usize;
-    let left = offset(x, setting.lift_of(half));
-    let right = offset(u, setting.bound as u64);
-    check_row(&a, &w, bias, x, &x[..width], u, left, right, 0, row, 0).number == 0
+    let vector = Vector::new(setting, bias, x, u, setting.lift_of(half), 0);
+    vector.check_row(&a, &w, row, 0).is_ok()
 }
 
 // A row of A and of the claims, decoded, to the beginnings of lists.

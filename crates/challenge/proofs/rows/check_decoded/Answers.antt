@@ -1,5 +1,5 @@
 use native.Mathlib.Omega.{arith}
-use mathlib.Core.Path.{refl}
+use mathlib.Core.Path.{refl, ◌∙◌}
 use lib.Seq.{length-take-le}
 use Rattle.ticket.specs.Laws.Limits.{Counts}
 use Rattle.ticket.proofs.Laws.Passes.{passes_of}
@@ -26,6 +26,9 @@ check_vectors-requires c = let counts : Counts c.args.setting = c.requires.passe
       },
     )
 
-pub returns : goal.returns
-returns c = check_rows _ _ _ refl (passes_of _ _ c.requires.passed) c.read_list-listed.ensures c.if-listed-ne0.false
-    c.check_vectors.ensures
+pub returns-in-Ok : goal.returns-in-Ok
+returns-in-Ok c = check_rows _ _ _ refl (passes_of _ _ c.requires.passed) c.read_list-listed.ensures c.if-listed-ne0.false c.in-Ok.ensures
+
+pub returns-in-Err : goal.returns-in-Err
+returns-in-Err c =
+    check_rows _ _ _ refl (passes_of _ _ c.requires.passed) c.read_list-listed.ensures c.if-listed-ne0.false (c.from.ensures ∙ c.in-Err.ensures)
