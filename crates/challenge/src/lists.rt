@@ -2,37 +2,29 @@
 ghost use Rattle.std.specs.Prelude.{◌≡◌, ◌+◌, ◌*◌, ◌^◌, ◌≤◌, ◌<◌, eqb, length, get_or};
 ghost use Rattle.std.specs.List.{list_all};
 ghost use Rattle.algebra.specs.Laws.Fills.{line_at};
-ghost use Rattle.ticket.specs.Rules.{first_refusal};
+ghost use Rattle.ticket.specs.Rules.{answered, first_refusal};
 ghost use Rattle.ticket.specs.Laws.All.{all};
 ghost use Rattle.ticket.specs.Laws.Limits.{Counts};
 ghost use Rattle.challenge.specs.Rules.{list_number, vector_number, list_reading};
 ghost use Rattle.challenge.specs.Laws.Lists.{nonzero_residue};
 
 use residue::Residue;
-use ticket::{Answer, Setting};
+use ticket::{Reason, Refusal, Setting};
 
-// The answer of the tests 10, 11 and 21; its number is 0 where the list is well formed. Numbers from 1 to p - 1 pass 11 and 21, and hardly
-// any list has others, so these two are made one after the other only where there are.
-pub(crate) fn read_list(setting: Setting, list: &[u32]) -> Answer
+// The tests 10, 11 and 21. Numbers from 1 to p - 1 pass 11 and 21, and hardly any list has others, so these two are made one after the
+// other only where there are.
+pub(crate) fn read_list(setting: Setting, list: &[u32]) -> Result<(), Refusal>
     requires { Counts setting }
-    ensures { result ≡ list_reading setting list.now }
+    ensures { answered result ≡ list_reading setting list.now }
 {
     let count = setting.vectors * setting.columns;
     if list.len() != count as usize {
-        return Answer {
-            number: 10,
-            place: 0,
-            row: 0,
-            products: 0,
-        };
+        return Err(Refusal::from(Reason::ListLength));
     }
     if nonzero_residues(list) {
-        return Answer::PASSED;
+        return Ok(());
     }
-    let numbers = read_numbers(list);
-    if numbers.number != 0 {
-        return numbers;
-    }
+    read_numbers(list)?;
     read_vectors(setting, list)
 }
 
@@ -48,41 +40,37 @@ fn nonzero_residues(list: &[u32]) -> bool
     all
 }
 
-// The answer of test 11: refused at the first number that is not a least residue.
-fn read_numbers(list: &[u32]) -> Answer
+// Test 11: refused at the first number that is not a least residue.
+fn read_numbers(list: &[u32]) -> Result<(), Refusal>
     requires { length list.now < 2 ^ 32 }
-    ensures { result ≡ first_refusal 0 (length list.now) (list_number list.now) }
+    ensures { answered result ≡ first_refusal 0 (length list.now) (list_number list.now) }
 {
     for (k, number) in list.iter().enumerate() {
         if Residue::modulus() <= *number {
-            return Answer {
-                number: 11,
+            return Err(Refusal {
+                reason: Reason::ListNumber,
                 place: k as u32,
-                row: 0,
-                products: 0,
-            };
+            });
         }
     }
-    Answer::PASSED
+    Ok(())
 }
 
-// The answer of test 21: refused at the first vector of zeros.
-fn read_vectors(setting: Setting, list: &[u32]) -> Answer
+// Test 21: refused at the first vector of zeros.
+fn read_vectors(setting: Setting, list: &[u32]) -> Result<(), Refusal>
     requires { length list.now ≡ setting.vectors * setting.columns }
-    ensures { result ≡ first_refusal 0 setting.vectors (vector_number setting list.now) }
+    ensures { answered result ≡ first_refusal 0 setting.vectors (vector_number setting list.now) }
 {
     let columns = setting.columns as usize;
     for t in 0..setting.vectors {
         if is_zero(line(list, columns, t)) {
-            return Answer {
-                number: 21,
+            return Err(Refusal {
+                reason: Reason::ZeroVector,
                 place: t,
-                row: 0,
-                products: 0,
-            };
+            });
         }
     }
-    Answer::PASSED
+    Ok(())
 }
 
 // Whether every number of a vector is 0.

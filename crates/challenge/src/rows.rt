@@ -127,9 +127,8 @@ pub(crate) fn check_decoded(
     requires { DecodeReady setting ticket.now (length room.old) }
     ensures { result ≡ challenge_check setting ticket.now list.now }
 {
-    let listed = read_list(setting, list);
-    if listed.number != 0 {
-        return listed;
+    if let Err(refusal) = read_list(setting, list) {
+        return Answer::from(refusal);
     }
     let entries = ticket::part(setting, ticket, PartNumber::A);
     let quotients = ticket::part(setting, ticket, PartNumber::QUOTIENTS);

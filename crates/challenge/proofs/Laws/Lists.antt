@@ -36,7 +36,7 @@ use Rattle.algebra.proofs.Laws.Fills.{part_of, part_long}
 use Rattle.algebra.proofs.Laws.Positions.{row_inside}
 use Rattle.ticket.specs.declared.setting.Setting.{Setting}
 use Rattle.ticket.specs.declared.Answer.{Answer}
-use Rattle.ticket.specs.Rules.{first, after, refusal, first_refusal}
+use Rattle.ticket.specs.Rules.{after, refusal, first_refusal}
 use Rattle.ticket.specs.Laws.All.{all}
 use Rattle.ticket.proofs.Laws.All.{all_at}
 use Rattle.ticket.proofs.Laws.Answers.{unless_zero, after_zero, scan_zero, first_past}

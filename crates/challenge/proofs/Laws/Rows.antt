@@ -5,8 +5,8 @@
 --   line_inside               a row is within its list
 --   row_sides                 each row is ready, those before it having passed
 --   row_step                  and its answer is that of its step
-use Rattle.std.specs.Prelude.{ℕ, ◌+◌, ◌*◌, ◌≤◌, ◌<◌, ◌^◌, ◌≡◌, List, eqb, length, get_or, take}
-use Rattle.std.proofs.Common.{arith, sym, ap, ◌∙◌, eq-eqb, ne_eqb, get_or-take, length-take-le}
+use Rattle.std.specs.Prelude.{ℕ, ◌+◌, ◌*◌, ◌≤◌, ◌<◌, ◌^◌, ◌≡◌, List, length, get_or, take}
+use Rattle.std.proofs.Common.{arith, ap, ◌∙◌, get_or-take, length-take-le}
 use Rattle.residue.proofs.Laws.Modulus.{modulus_below}
 use Rattle.algebra.specs.Laws.Fills.{line_at}
 use Rattle.algebra.proofs.Laws.Fills.{part_of, part_long}
@@ -16,7 +16,7 @@ use Rattle.ticket.specs.declared.Answer.{Answer}
 use Rattle.ticket.specs.Rules.{answer, record_bytes, bias_columns}
 use Rattle.ticket.specs.Laws.Runs.{step_answer, RunTo}
 use Rattle.challenge.specs.declared.rows.Vector.{Vector}
-use Rattle.challenge.specs.Laws.Products.{dot_with, rows_times, WordVector}
+use Rattle.challenge.specs.Laws.Products.{WordVector}
 use Rattle.challenge.proofs.Laws.Products.{dot_small, offset_small}
 use Rattle.challenge.specs.Laws.Rows.{row_answer, row_cost, row_steps, VectorRowsReady, SidesReady}
 

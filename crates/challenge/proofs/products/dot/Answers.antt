@@ -1,4 +1,3 @@
-use Rattle.std.proofs.Common.{arith}
 use Rattle.challenge.specs.Laws.Products.{dot_with}
 use Rattle.challenge.proofs.Laws.Products.{reached_none, reached_all, reduced, narrow_total, narrow_more}
 use Rattle.challenge.proofs.products.dot.Goals as goal

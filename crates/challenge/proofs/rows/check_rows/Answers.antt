@@ -1,4 +1,4 @@
-use Rattle.std.proofs.Common.{◌≡◌, ◌*◌, refl, ap, Err, arith, rules}
+use Rattle.std.proofs.Common.{◌≡◌, refl, ap, Err, arith, rules}
 use Rattle.ticket.specs.Rules.{answer}
 use Rattle.ticket.proofs.Laws.Runs.{run_none, run_next, run_stopped, run_ended}
 use Rattle.challenge.proofs.Laws.Rows.{row_sides, row_step}
