@@ -15,6 +15,14 @@ mod single;
 
 pub use single::RowAnswer;
 
+// What a check is of: a ticket, with the setting that it is for, and a challenge list.
+#[derive(Clone, Copy)]
+struct Case<'a> {
+    setting: Setting,
+    ticket: &'a [u8],
+    list: &'a [u32],
+}
+
 // So many entries of A and claims, together, are few.
 const FEW: u32 = 128;
 
@@ -29,12 +37,17 @@ pub fn check(setting: Setting, ticket: &[u8], list: &[u32]) -> Answer
     if let Err(refusal) = ticket::read(setting, ticket) {
         return Answer::from(refusal);
     }
+    let case = Case {
+        setting,
+        ticket,
+        list,
+    };
     if setting.rows * (setting.inner + setting.columns) <= FEW {
         let mut room = [0; FEW as usize];
-        return rows::check_decoded(setting, ticket, list, &mut room);
+        return rows::check_decoded(case, &mut room);
     }
     let mut room = [0; MOST as usize];
-    rows::check_decoded(setting, ticket, list, &mut room)
+    rows::check_decoded(case, &mut room)
 }
 
 // The ordinary tests, those of setting, ticket and list.
@@ -71,5 +84,10 @@ pub fn check_one_row(
     if setting.vectors <= t || setting.rows <= row {
         return single::no_row(Answer::PASSED, u);
     }
-    single::row_of(setting, ticket, list, t, row, u)
+    let case = Case {
+        setting,
+        ticket,
+        list,
+    };
+    single::row_of(case, t, row, u)
 }

@@ -11,6 +11,7 @@ ghost use Rattle.challenge.specs.Laws.Rows.{outcome, row_answer, row_steps, Vect
 ghost use Rattle.challenge.specs.Laws.Sides.{DecodedTo, RoomFor};
 ghost use Rattle.challenge.specs.Laws.Vectors.{vector_steps, ListReady, VectorReady};
 
+use crate::Case;
 use crate::lists::{line, read_list};
 use crate::products::{dot, dot_records, offset, product, wide_dot, widen};
 use residue::Residue;
@@ -118,15 +119,15 @@ impl<'a> Vector<'a> {
 
 // The check of a ticket that passes its own tests: those of the list, then all rows for all vectors of it. A and the claims are decoded
 // once for all vectors, A to the beginning of the room and the claims to what is left of it.
-pub(crate) fn check_decoded(
-    setting: Setting,
-    ticket: &[u8],
-    list: &[u32],
-    room: &mut [u32],
-) -> Answer
-    requires { DecodeReady setting ticket.now (length room.old) }
-    ensures { result ≡ challenge_check setting ticket.now list.now }
+pub(crate) fn check_decoded(case: Case, room: &mut [u32]) -> Answer
+    requires { DecodeReady case.setting case.ticket.now (length room.old) }
+    ensures { result ≡ challenge_check case.entry.setting case.entry.ticket.now case.entry.list.now }
 {
+    let Case {
+        setting,
+        ticket,
+        list,
+    } = case;
     if let Err(refusal) = read_list(setting, list) {
         return Answer::from(refusal);
     }
@@ -152,14 +153,7 @@ pub(crate) fn check_decoded(
         w: &room[size..],
         lift: setting.lift_of(half),
     };
-    match check_vectors(
-        setting,
-        ticket,
-        list,
-        decoded,
-        &mut x[..columns],
-        &mut u[..inner],
-    ) {
+    match check_vectors(case, decoded, &mut x[..columns], &mut u[..inner]) {
         Ok(products) => Answer {
             number: 0,
             place: 0,
@@ -172,21 +166,14 @@ pub(crate) fn check_decoded(
 
 // All rows for all vectors, one after the other, up to the first row that is caught; the products of all of them. The lists x and u are for
 // a vector and its product with B.
-fn check_vectors(
-    setting: Setting,
-    ticket: &[u8],
-    list: &[u32],
-    decoded: Decoded,
-    x: &mut [u64],
-    u: &mut [u64],
-) -> Result<u32, Caught>
-    requires { ListReady setting ticket.now list.now
-        × DecodedTo setting ticket.now decoded.a.now decoded.w.now decoded.lift × RoomFor setting x.old u.old }
-    ensures { outcome result ≡ verdict setting ticket.now list.now }
+fn check_vectors(case: Case, decoded: Decoded, x: &mut [u64], u: &mut [u64]) -> Result<u32, Caught>
+    requires { ListReady case.setting case.ticket.now case.list.now
+        × DecodedTo case.setting case.ticket.now decoded.a.now decoded.w.now decoded.lift × RoomFor case.setting x.old u.old }
+    ensures { outcome result ≡ verdict case.entry.setting case.entry.ticket.now case.entry.list.now }
 {
     let mut products = 0;
-    for t in 0..setting.vectors {
-        products = check_vector(setting, ticket, list, decoded, x, u, t, products)?;
+    for t in 0..case.setting.vectors {
+        products = check_vector(case, decoded, x, u, t, products)?;
     }
     Ok(products)
 }
@@ -194,19 +181,22 @@ fn check_vectors(
 // All rows for vector number t of the list, from the products made before it. B is read as a part: the matrix-vector product gets the
 // slice of the ticket that starts where B does.
 fn check_vector(
-    setting: Setting,
-    ticket: &[u8],
-    list: &[u32],
+    case: Case,
     decoded: Decoded,
     x: &mut [u64],
     u: &mut [u64],
     t: u32,
     products: u32,
 ) -> Result<u32, Caught>
-    requires { VectorReady setting ticket.now list.now t products
-        × DecodedTo setting ticket.now decoded.a.now decoded.w.now decoded.lift × RoomFor setting x.old u.old }
-    ensures { outcome result ≡ step_answer (vector_steps setting ticket.now list.now) t }
+    requires { VectorReady case.setting case.ticket.now case.list.now t products
+        × DecodedTo case.setting case.ticket.now decoded.a.now decoded.w.now decoded.lift × RoomFor case.setting x.old u.old }
+    ensures { outcome result ≡ step_answer (vector_steps case.entry.setting case.entry.ticket.now case.entry.list.now) t }
 {
+    let Case {
+        setting,
+        ticket,
+        list,
+    } = case;
     widen(line(list, x.len(), t), x);
     product(ticket::part(setting, ticket, PartNumber::B), x, u);
     let bias = ticket::part(setting, ticket, PartNumber::BIAS);

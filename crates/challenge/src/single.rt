@@ -6,6 +6,7 @@ ghost use Rattle.challenge.specs.Laws.Products.{WordVector};
 ghost use Rattle.challenge.specs.Laws.Sides.{RoomFor, RowDecoded};
 ghost use Rattle.challenge.specs.Laws.Single.{DecodeRowReady, LineReady, RowReady};
 
+use crate::Case;
 use crate::lists::line;
 use crate::products::{WORD, product, widen};
 use crate::rows::{COLUMNS, INNER, Vector};
@@ -33,48 +34,35 @@ pub(crate) fn no_row(tested: Answer, u: [u32; INNER]) -> RowAnswer
 }
 
 // A row of a ticket and a list that pass the tests, both row and vector being there.
-pub(crate) fn row_of(
-    setting: Setting,
-    ticket: &[u8],
-    list: &[u32],
-    t: u32,
-    row: u32,
-    u: [u32; INNER],
-) -> RowAnswer
-    requires { RowReady setting ticket.now list.now t row }
-    ensures { result ≡ row_made setting ticket.now list.now t row u }
+pub(crate) fn row_of(case: Case, t: u32, row: u32, u: [u32; INNER]) -> RowAnswer
+    requires { RowReady case.setting case.ticket.now case.list.now t row }
+    ensures { result ≡ row_made case.entry.setting case.entry.ticket.now case.entry.list.now t row u }
 {
-    let columns = setting.columns as usize;
-    let inner = setting.inner as usize;
+    let columns = case.setting.columns as usize;
+    let inner = case.setting.inner as usize;
     let mut x = [0; COLUMNS];
     let mut wide = [0; INNER];
-    row_in(
-        setting,
-        ticket,
-        list,
-        t,
-        row,
-        u,
-        &mut x[..columns],
-        &mut wide[..inner],
-    )
+    row_in(case, t, row, u, &mut x[..columns], &mut wide[..inner])
 }
 
 // The same; the lists x and wide are for the vector and for the numbers that the row takes for its product with B. These are not reduced
 // first: modulo p their products come to the same.
 fn row_in(
-    setting: Setting,
-    ticket: &[u8],
-    list: &[u32],
+    case: Case,
     t: u32,
     row: u32,
     u: [u32; INNER],
     x: &mut [u64],
     wide: &mut [u64],
 ) -> RowAnswer
-    requires { RowReady setting ticket.now list.now t row × RoomFor setting x.old wide.old }
-    ensures { result ≡ row_made setting ticket.now list.now t row u }
+    requires { RowReady case.setting case.ticket.now case.list.now t row × RoomFor case.setting x.old wide.old }
+    ensures { result ≡ row_made case.entry.setting case.entry.ticket.now case.entry.list.now t row u }
 {
+    let Case {
+        setting,
+        ticket,
+        list,
+    } = case;
     widen(line(list, x.len(), t), x);
     let made = product_at(setting, ticket, x, wide, row, u);
     let inner = wide.len();

@@ -13,7 +13,7 @@ returns-in-Err c =
     c.from.ensures ∙ check_list _ _ _ refl (passes_of _ _ c.requires.passed) c.in-Err.ensures (reason_numbered _)
 
 pub check_vectors-requires : goal.check_vectors-requires
-check_vectors-requires c = let counts : Counts c.args.setting = c.requires.passed.counts in
+check_vectors-requires c = let counts : Counts c.args.case.setting = c.requires.passed.counts in
     let pre = c.requires in (
       rows_can pre.passed c.in_default.ensures refl,
       rw (

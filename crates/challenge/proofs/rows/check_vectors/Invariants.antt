@@ -6,4 +6,4 @@ use Rattle.challenge.specs.Laws.Vectors.{vector_steps}
 use Rattle.challenge.proofs.rows.check_vectors.Given as goal
 
 abbrev pub invariant-loop-t : goal.invariant-loop-t
-invariant-loop-t l = RoomFor l.setting l.x l.u × RunTo (vector_steps l.setting l.ticket l.list) l.t (answer 0 0 0 l.products)
+invariant-loop-t l = RoomFor l.case.setting l.x l.u × RunTo (vector_steps l.case.setting l.case.ticket.now l.case.list.now) l.t (answer 0 0 0 l.products)
