@@ -15,7 +15,7 @@ use crate::Case;
 use crate::lists::{line, read_list};
 use crate::products::{dot, dot_records, offset, product, wide_dot, widen};
 use residue::Residue;
-use ticket::{Answer, PartNumber, Setting};
+use ticket::{Answer, PartNumber, Reason, Setting};
 
 // The most numbers of a vector, and of its product with B.
 pub(crate) const COLUMNS: usize = Setting::MOST_COLUMNS as usize;
@@ -25,9 +25,9 @@ pub(crate) const INNER: usize = Setting::MOST_INNER as usize;
 // A row whose two sides differ, for a vector, and the products made so far, with those of the row.
 #[derive(Clone, Copy)]
 pub(crate) struct Caught {
-    pub(crate) vector: u32,
-    pub(crate) row: u32,
-    pub(crate) products: u32,
+    vector: u32,
+    row: u32,
+    products: u32,
 }
 
 impl From<Caught> for Answer {
@@ -35,7 +35,7 @@ impl From<Caught> for Answer {
 
     fn from(caught: Caught) -> Answer {
         Answer {
-            number: 12,
+            number: Reason::Caught.number(),
             place: caught.vector,
             row: caught.row,
             products: caught.products,
@@ -45,10 +45,10 @@ impl From<Caught> for Answer {
 
 // What A and the claims are decoded to, row after row, and what the claims are lifted by.
 #[derive(Clone, Copy)]
-pub(crate) struct Decoded<'a> {
-    pub(crate) a: &'a [u32],
-    pub(crate) w: &'a [u32],
-    pub(crate) lift: u64,
+struct Decoded<'a> {
+    a: &'a [u32],
+    w: &'a [u32],
+    lift: u64,
 }
 
 // What all rows of a vector have in common: its number t, the vector x, its product u with B, and the bias. Rows of the bias, read as
@@ -56,13 +56,13 @@ pub(crate) struct Decoded<'a> {
 // the entries by right.
 #[derive(Clone, Copy)]
 pub(crate) struct Vector<'a> {
-    pub(crate) t: u32,
-    pub(crate) x: &'a [u64],
-    pub(crate) u: &'a [u64],
-    pub(crate) bias: &'a [u8],
-    pub(crate) z: &'a [u64],
-    pub(crate) left: u64,
-    pub(crate) right: u64,
+    t: u32,
+    x: &'a [u64],
+    u: &'a [u64],
+    bias: &'a [u8],
+    z: &'a [u64],
+    left: u64,
+    right: u64,
 }
 
 impl<'a> Vector<'a> {
