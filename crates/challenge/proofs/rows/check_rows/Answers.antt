@@ -1,11 +1,7 @@
-use Rattle.std.proofs.Common.{◌≡◌, refl, ap, Err, arith, rules}
-use Rattle.ticket.specs.Rules.{answer}
-use Rattle.ticket.proofs.Laws.Runs.{run_none, run_next, run_stopped, run_ended}
+use Rattle.std.proofs.Common.{◌≡◌, refl, Err, arith, rules}
+use Rattle.ticket.proofs.Laws.Runs.{run_next, run_stopped, run_ended}
 use Rattle.challenge.proofs.Laws.Rows.{row_sides, row_step}
 use Rattle.challenge.proofs.rows.check_rows.Goals as goal
-
-pub loop-row-init : goal.loop-row-init
-loop-row-init c = run_none (ap (answer 0 0 0) (omega arith))
 
 pub check_row-requires : goal.check_row-requires
 check_row-requires c = row_sides c.requires c.loop-row.invariant c.loop-row-test.true c.line-a.ensures c.line-w.ensures
