@@ -229,7 +229,7 @@ fn row_bias(bias: &[u8], k: u32, vector: &[u64]) -> u64
     requires { RecordsReady bias.now (k * length vector.now) vector.now }
     ensures { result ≡ rows_times bias.now vector.now k }
 {
-    if vector.len() == 0 {
+    if vector.is_empty() {
         return 0;
     }
     let start = (k as usize) * vector.len();
