@@ -5,7 +5,7 @@
 ghost use Rattle.std.specs.Prelude.{◌≡◌};
 ghost use Rattle.files.specs.Rules.{file_check};
 
-use bytes::{count, numbers, setting_of};
+use bytes::{NUMBERS, list_of, setting_of};
 use ticket::{Answer, Setting};
 
 mod bytes;
@@ -36,7 +36,10 @@ pub fn check(setting: &[u8], ticket: &[u8], challenge: &[u8]) -> Answer
         };
     }
     let parameters = setting_of(setting);
-    let list = numbers(challenge);
-    let count = count(challenge.len());
-    challenge::check(parameters, ticket, &list[..count])
+    let mut room = [0; NUMBERS];
+    match list_of(challenge, &mut room) {
+        Some(list) => challenge::check(parameters, ticket, list),
+        // an empty list is as wrong: no setting within its limits asks for one
+        None => challenge::check(parameters, ticket, &[]),
+    }
 }
