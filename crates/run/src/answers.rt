@@ -1,18 +1,33 @@
 // Whether a run is finished, how it goes on, and what is said of it.
 ghost use Rattle.std.specs.Prelude.{◌≡◌};
 ghost use Rattle.ticket.specs.Rules.{plain};
-ghost use Rattle.run.specs.Rules.{is_finished, is_past, marked, products_done, standing, tested};
-ghost use Rattle.run.specs.Laws.States.{Answerable, DoneReady, due, proceeded};
+ghost use Rattle.run.specs.Rules.{is_caught, is_finished, is_past, marked, products_done, standing, tested};
+ghost use Rattle.run.specs.Laws.States.{Answerable, DoneReady, due, mark_of, proceeded};
 
 use crate::{Run, RunAnswer};
 use challenge::RowAnswer;
 use ticket::{Answer, PlainSetting};
 
-// What is said of a run.
+// How a run stands, or that a call refused.
 #[derive(Clone, Copy)]
-struct Told {
-    mark: u32,
-    answer: Answer,
+enum Standing {
+    UnderWay,
+    Caught,
+    Complete,
+    Refused,
+}
+
+impl From<Standing> for u32 {
+    ghost from_gives = { λ standing mark. mark ≡ mark_of standing };
+
+    fn from(standing: Standing) -> u32 {
+        match standing {
+            Standing::UnderWay => RunAnswer::UNDER_WAY,
+            Standing::Caught => RunAnswer::CAUGHT,
+            Standing::Complete => RunAnswer::COMPLETE,
+            Standing::Refused => RunAnswer::REFUSED,
+        }
+    }
 }
 
 impl Run {
@@ -20,13 +35,19 @@ impl Run {
     fn is_past(self) -> bool
         ensures { result ≡ is_past self }
     {
-        (self.setting.vectors <= self.vector) | (self.setting.rows <= self.row)
+        self.setting.vectors <= self.vector || self.setting.rows <= self.row
+    }
+
+    fn is_caught(self) -> bool
+        ensures { result ≡ is_caught self }
+    {
+        0 < self.caught
     }
 
     pub(crate) fn is_finished(self) -> bool
         ensures { result ≡ is_finished self }
     {
-        self.is_past() | (0 < self.caught)
+        self.is_past() || self.is_caught()
     }
 
     // The vector whose row is due. Where the run is finished none is: then it is one that is not there.
@@ -43,7 +64,7 @@ impl Run {
     pub(crate) fn proceeded(mut self, made: RowAnswer) -> Run
         ensures { result ≡ proceeded self made }
     {
-        if (made.tested.number == 0) & !self.is_finished() {
+        if made.tested.number == 0 && !self.is_finished() {
             if made.balanced {
                 self.row += 1;
                 if self.setting.rows <= self.row {
@@ -62,60 +83,50 @@ impl Run {
         requires { Answerable self read }
         ensures { result ≡ tested self read (standing self) }
     {
-        let told = self.told(read);
-        let answer = told.answer;
+        let (standing, answer) = self.told(read);
         RunAnswer {
             run: self,
-            mark: told.mark,
+            mark: standing.into(),
             answer,
         }
     }
 
-    fn told(self, read: Answer) -> Told
+    fn told(self, read: Answer) -> (Standing, Answer)
         requires { Answerable self read }
-        ensures { marked self result.mark result.answer ≡ tested self read (standing self) }
+        ensures { marked self (mark_of result.0) result.1 ≡ tested self read (standing self) }
     {
         if read.number != 0 {
-            return Told {
-                mark: RunAnswer::REFUSED,
-                answer: read,
-            };
+            return (Standing::Refused, read);
         }
         let setting = self.setting;
         if self.is_past() {
-            let answer = Answer {
-                number: 0,
-                place: 0,
-                row: 0,
-                products: products_done(setting, setting.vectors, 0),
-            };
-            return Told {
-                mark: RunAnswer::COMPLETE,
-                answer,
-            };
+            let products = products_done(setting, setting.vectors, 0);
+            return (
+                Standing::Complete,
+                Answer {
+                    products,
+                    ..Answer::PASSED
+                },
+            );
         }
-        if 0 < self.caught {
-            let answer = Answer {
-                number: 12,
-                place: self.vector,
-                row: self.row,
-                products: products_done(setting, self.vector, self.row + 1),
-            };
-            return Told {
-                mark: RunAnswer::CAUGHT,
-                answer,
-            };
-        }
-        let answer = Answer {
-            number: 0,
+        let here = Answer {
             place: self.vector,
             row: self.row,
-            products: products_done(setting, self.vector, self.row),
+            ..Answer::PASSED
         };
-        Told {
-            mark: RunAnswer::UNDER_WAY,
-            answer,
+        if self.is_caught() {
+            let products = products_done(setting, self.vector, self.row + 1);
+            return (
+                Standing::Caught,
+                Answer {
+                    number: 12,
+                    products,
+                    ..here
+                },
+            );
         }
+        let products = products_done(setting, self.vector, self.row);
+        (Standing::UnderWay, Answer { products, ..here })
     }
 }
 

@@ -80,8 +80,7 @@ impl Run {
         );
         let u = made.u;
         self.u = u;
-        let read = made.tested;
-        self.proceeded(made).answered(read)
+        self.proceeded(made).answered(made.tested)
     }
 
     // The tests of the state and of a vector, which then joins the end of the list, where the run is not finished and has room for it.

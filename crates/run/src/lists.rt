@@ -1,11 +1,10 @@
 // The lists of states: made, read and lengthened.
-ghost use Rattle.std.specs.Prelude.{◌≡◌, cond, ◌+◌, ◌≤◌, leb, length, get_or, take};
-ghost use Rattle.algebra.specs.Laws.Fills.{Filled};
+ghost use Rattle.std.specs.Prelude.{◌≡◌, cond, ◌≤◌, leb, length, take};
 ghost use Rattle.ticket.specs.Rules.{refusal, setting_number};
 ghost use Rattle.ticket.specs.Laws.Vectors.{vectored};
 ghost use Rattle.challenge.specs.Rules.{list_reading};
 ghost use Rattle.challenge.specs.Laws.Lengthened.{placed_after};
-ghost use Rattle.run.specs.Rules.{addition_reading, begun, lengthened, most_numbers, overwritten, zeros};
+ghost use Rattle.run.specs.Rules.{addition_reading, begun, lengthened, most_numbers, zeros};
 ghost use Rattle.run.specs.Laws.Additions.{Additional};
 
 use crate::{INNER, NUMBERS, Run};
@@ -15,25 +14,22 @@ use ticket::{Answer, PlainSetting, Setting};
 pub(crate) fn zeros() -> Run
     ensures { result ≡ zeros }
 {
-    let setting = PlainSetting {
-        rows: 0,
-        inner: 0,
-        columns: 0,
-        vectors: 0,
-        scale: 0,
-        bound: 0,
-        width: 0,
-        rounding: 0,
-    };
-    let list = [0; NUMBERS];
-    let u = [0; INNER];
     Run {
-        setting,
-        list,
+        setting: PlainSetting {
+            rows: 0,
+            inner: 0,
+            columns: 0,
+            vectors: 0,
+            scale: 0,
+            bound: 0,
+            width: 0,
+            rounding: 0,
+        },
+        list: [0; NUMBERS],
         length: 0,
         vector: 0,
         row: 0,
-        u,
+        u: [0; INNER],
         caught: 0,
     }
 }
@@ -44,16 +40,12 @@ pub(crate) fn begun(setting: PlainSetting, list: &[u32]) -> Run
     ensures { result ≡ begun setting list.now }
 {
     let mut held = [0; NUMBERS];
-    copy(list, &mut held);
-    let u = [0; INNER];
+    held[..list.len()].copy_from_slice(list);
     Run {
         setting,
         list: held,
         length: list.len() as u32,
-        vector: 0,
-        row: 0,
-        u,
-        caught: 0,
+        ..zeros()
     }
 }
 
@@ -61,11 +53,7 @@ pub(crate) fn begun(setting: PlainSetting, list: &[u32]) -> Run
 pub(crate) fn held(list: &[u32], count: u32) -> &[u32]
     ensures { result.now ≡ take (cond (leb count (length list.now)) count 0) list.now }
 {
-    let end = count as usize;
-    if list.len() < end {
-        return &list[..0];
-    }
-    &list[..end]
+    list.get(..count as usize).unwrap_or(&[])
 }
 
 impl Run {
@@ -95,13 +83,10 @@ impl Run {
         ensures { result ≡ lengthened self vector.now }
     {
         let start = self.length as usize;
-        let mut list = self.list;
-        put(vector, &mut list, start);
-        self.list = list;
-        self.length = (start + vector.len()) as u32;
-        let mut setting = self.setting;
-        setting.vectors += 1;
-        self.setting = setting;
+        let end = start + vector.len();
+        self.list[start..end].copy_from_slice(vector);
+        self.length = end as u32;
+        self.setting.vectors += 1;
         self
     }
 }
@@ -129,26 +114,5 @@ fn refusal(number: u32, place: u32) -> Answer
         place,
         row: 0,
         products: 0,
-    }
-}
-
-// Numbers to a list, from a place on.
-fn put(numbers: &[u32], list: &mut [u32], start: usize)
-    requires { start + length numbers.now ≤ length list.old }
-    ensures { list.new ≡ overwritten list.old start numbers.now }
-{
-    let end = start + numbers.len();
-    copy(numbers, &mut list[start..end]);
-}
-
-// Numbers to the beginning of a list.
-fn copy(numbers: &[u32], list: &mut [u32])
-    requires { length numbers.now ≤ length list.old }
-    ensures { Filled 0 list.old (length numbers.now) (λ k. get_or numbers.now k 0) list.new }
-{
-    let mut k = 0;
-    while k < numbers.len() {
-        list[k] = numbers[k];
-        k += 1;
     }
 }

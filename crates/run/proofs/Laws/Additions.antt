@@ -10,21 +10,18 @@
 --   Additional R v, addition_passed   what an addition that passes gives
 --   addition_sizes, vectors_few, unfinished_open, lengthened_sizes   the sizes, without the vector and with it; that the run is not finished
 --   held_long, vector_long, addition_fits   how long the lists are, and that there is room
-use Rattle.std.specs.Prelude.{ℕ, zero, suc, ◌+◌, ◌-◌, ◌*◌, ◌≤◌, ◌<◌, ◌≡◌, refl, Bool, true, false, cond, not, ◌&&◌, ◌||◌, leb, ltb, get_or, drop, replicate}
+use Rattle.std.specs.Prelude.{ℕ, zero, suc, ◌+◌, ◌-◌, ◌*◌, ◌≤◌, ◌<◌, ◌≡◌, refl, Bool, true, false, cond, not, ◌&&◌, ◌||◌, leb, ltb, drop, replicate}
 use Rattle.std.proofs.Math.Decide.{dec_le}
 use Rattle.std.proofs.Math.Nat.{mul-le-mul}
-use Rattle.std.proofs.Common.{arith, ◌∙◌, eq-eqb, ne_eqb, le-leb, lt-ltb, le-ltb, ltb-true, length-append, length-drop, ext_get_or, length-take-le, drop-drop}
+use Rattle.std.proofs.Common.{arith, ◌∙◌, eq-eqb, ne_eqb, le-leb, lt-ltb, le-ltb, ltb-true, length-append, length-take-le}
 use Rattle.std.proofs.Math.Path.{sym, ap}
 use Rattle.std.proofs.lemmas.Bool.{false≢true, lt-leb}
-use mathlib.Core.List.{List, [], ◌++◌, append-nil}
+use mathlib.Core.List.{List, [], ◌++◌}
 use Rattle.std.proofs.Math.ListN.{length, take}
-use Rattle.std.proofs.lemmas.List.{length-replicate}
-use Rattle.std.proofs.Math.Seq.{drop-length}
-use Rattle.algebra.specs.Laws.Fills.{Filled}
 use Rattle.ticket.specs.declared.published.PlainSetting.{PlainSetting}
 use Rattle.ticket.specs.declared.setting.Setting.{Setting}
 use Rattle.ticket.specs.declared.Answer.{Answer}
-use Rattle.ticket.specs.Rules.{unless, refusal, after, most_inner, most_columns, most_vectors, plain, setting_number}
+use Rattle.ticket.specs.Rules.{unless, refusal, after, most_columns, most_vectors, plain, setting_number}
 use Rattle.ticket.proofs.Laws.Answers.{unless_zero, after_zero}
 use Rattle.ticket.specs.Laws.Limits.{Sizes}
 use Rattle.ticket.proofs.Laws.Limits.{both, limits_of}
@@ -33,13 +30,12 @@ use Rattle.ticket.proofs.Laws.Scans.{after_passed, after_first, after_second, af
 use Rattle.ticket.specs.Laws.Vectors.{vectored}
 use Rattle.ticket.proofs.Laws.Vectors.{vectored_number}
 use Rattle.challenge.specs.declared.single.RowAnswer.{RowAnswer}
-use Rattle.challenge.specs.Rules.{WellFormed, list_reading, listed, row_check}
+use Rattle.challenge.specs.Rules.{WellFormed, list_reading, row_check}
 use Rattle.challenge.specs.Laws.Lengthened.{placed_after}
 use Rattle.challenge.proofs.Laws.Lengthened.{lengthened_reading}
 use Rattle.challenge.proofs.Laws.Lists.{well_formed_is, list_place}
-use Rattle.challenge.proofs.Laws.Single.{listed_long, listed_at, filled_listed}
 use Rattle.run.specs.declared.Run.{Run}
-use Rattle.run.specs.Rules.{layer, most_numbers, held_list, is_finished, begun, one_more, lengthened, is_open, addition_reading, overwritten}
+use Rattle.run.specs.Rules.{layer, most_numbers, held_list, is_finished, zeros, begun, one_more, lengthened, is_open, addition_reading, overwritten}
 use Rattle.run.specs.Laws.Additions.{Additional}
 
 module _ (R : Run) (long : length R.list ≡ most_numbers) {G : Setting} (G-is : G ≡ layer R) {x : List ℕ}
@@ -57,39 +53,22 @@ module _ (R : Run) (long : length R.list ≡ most_numbers) {G : Setting} (G-is :
 
 -- lists of which the first numbers are those of another
 
-listed_self : (x : List ℕ) → listed (length x) (λ k. get_or x k 0) ≡ x
-listed_self x = ext_get_or 0 _ x (listed_long (length x) _) (λ k l. listed_at (length x) _ k (omega (arith, listed_long (length x) (λ i. get_or x i 0))))
-
-filled_by : (x : List ℕ) {before list : List ℕ} → length x ≤ length before → Filled 0 before (length x) (λ k. get_or x k 0) list
-    → list ≡ x ++ drop (length x) before
-filled_by x {before} fits filled = filled_listed fits filled ∙ ap (λ l. l ++ drop (length x) before) (listed_self x)
-
 drop_replicate : {A : Type 0} (n m : ℕ) (a : A) → drop n (replicate m a) ≡ replicate (m - n) a
 drop_replicate zero m a = let all : m ≡ m - 0 = omega arith in ap (λ k. replicate k a) all
 drop_replicate (suc n) zero a = let none : 0 ≡ 0 - suc n = omega arith in ap (λ k. replicate k a) none
 drop_replicate (suc n) (suc m) a = let less : m - n ≡ suc m - suc n = omega arith in drop_replicate n m a ∙ ap (λ k. replicate k a) less
 
-begun_list : (x : List ℕ) {list : List ℕ} → length x ≤ most_numbers → Filled 0 (replicate most_numbers 0) (length x) (λ k. get_or x k 0) list
-    → list ≡ x ++ replicate (most_numbers - length x) 0
-begun_list x few filled =
-    filled_by x (omega (arith, length-replicate {A = ℕ} most_numbers 0)) filled ∙ ap (λ l. x ++ l) (drop_replicate (length x) most_numbers 0)
-
-pub begun_made : (P : PlainSetting) (x : List ℕ) {list : List ℕ} → length x ≤ most_numbers
-    → Filled 0 (replicate most_numbers 0) (length x) (λ k. get_or x k 0) list
-    → ◌≡◌ {A = Run} (record { setting = P; list = list; length = length x; vector = 0; row = 0; u = replicate most_inner 0; caught = 0 }) (begun P x)
-begun_made P x few filled = rw (begun_list x few filled)
-
--- a list with another in its middle
-pub put_list : (x v : List ℕ) (start : ℕ) → start + length v ≤ length x → {part : List ℕ}
-    → Filled 0 (take (start + length v - start) (drop start x)) (length v) (λ k. get_or v k 0) part
-    → take start x ++ (part ++ drop (start + length v - start) (drop start x)) ≡ overwritten x start v
-put_list x v start fits filled =
-    let room = take (start + length v - start) (drop start x) in
-    let size : length room ≡ length v = length-take-le (start + length v - start) (drop start x) (omega (arith, length-drop start x)) ∙ omega arith in
-    let none : drop (length v) room ≡ [] = ap (λ n. drop n room) (sym size) ∙ drop-length room in
-    let whole : _ ≡ v = filled_by v (omega arith) filled ∙ ap (λ l. v ++ l) none ∙ append-nil v in
-    let end : start + (start + length v - start) ≡ start + length v = omega arith in
-    rw (whole, drop-drop (start + length v - start) start x, end)
+pub begun_made : (P : PlainSetting) (x : List ℕ) {list : List ℕ} {Z : Run} → list ≡ x → Z ≡ zeros
+    → ◌≡◌ {A = Run} (record {
+      setting = P;
+      list = list ++ drop (length x) (replicate most_numbers 0);
+      length = length x;
+      vector = Z.vector;
+      row = Z.row;
+      u = Z.u;
+      caught = Z.caught;
+    }) (begun P x)
+begun_made P x e z = rw (e, z, drop_replicate {A = ℕ} (length x) most_numbers 0)
 
 -- the tests of an addition
 

@@ -9,7 +9,7 @@
 --   testing_plain      the ordinary tests of a setting without a bias
 --   testing_passed     where the ordinary tests pass, setting, ticket and list do
 --   proceeding         the next vector and row are then there
---   proceeded_none, proceeded_caught, proceeded_within, proceeded_over   it by the four ways in which that may go
+--   proceeded_refused, proceeded_finished, proceeded_caught, proceeded_within, proceeded_over   it by the five ways in which that may go
 --   step_sizes, step_made   the answer of a step, by that state: it can be given, and is that of the rule
 --   Worked R t R', worked_is   the state after the row is R', by the three ways in which a row ends
 --   worked_same, worked_count   setting and list stay, and one row more is done
@@ -131,19 +131,23 @@ testing_passed G t x a-is z =
 -- a step
 
 module _ (R : Run) (a : RowAnswer) where
-  pub proceeded_none : (eqb a.tested.number 0 && not (is_finished R)) ≡ false → R ≡ proceeded R a
+  proceeded_none : (eqb a.tested.number 0 && not (is_finished R)) ≡ false → R ≡ proceeded R a
   unfolding proceeded
   proceeded_none e = sym (rw e)
 
-  module _ (on : (eqb a.tested.number 0 && not (is_finished R)) ≡ true) where
+  pub proceeded_refused : (a.tested.number ≡ 0 → ⊥) → R ≡ proceeded R a
+  proceeded_refused d = proceeded_none (rw (ne_eqb a.tested.number 0 d))
+
+  pub proceeded_finished : a.tested.number ≡ 0 → {f : Bool} → f ≡ is_finished R → f ≡ true → R ≡ proceeded R a
+  proceeded_finished passed f-is finished = proceeded_none (rw (eq-eqb a.tested.number 0 passed, sym f-is ∙ finished))
+
+  module _ (passed : a.tested.number ≡ 0) {f : Bool} (f-is : f ≡ is_finished R) (going : f ≡ false) where
+    on : (eqb a.tested.number 0 && not (is_finished R)) ≡ true
+    on = rw (eq-eqb a.tested.number 0 passed, sym f-is ∙ going)
+
     -- the next vector and row are there
     pub proceeding : (R.vector < R.setting.vectors) × (R.row < R.setting.rows)
-    proceeding = not_past R (unfinished R (second (eqb a.tested.number 0) (is_finished R) on)).0
-      where
-        second : (b f : Bool) → (b && not f) ≡ true → f ≡ false
-        second true false e = refl
-        second true true e = absurd (false≢true e)
-        second false f e = absurd (false≢true e)
+    proceeding = not_past R (unfinished R (sym f-is ∙ going)).0
 
     pub proceeded_caught : a.balanced ≡ false → placed R R.u R.vector R.row 1 ≡ proceeded R a
     unfolding proceeded

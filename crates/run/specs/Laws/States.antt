@@ -2,6 +2,7 @@
 --
 --   DoneReady P τ i    the products of τ vectors and i rows can be counted
 --   Answerable R a     where tests with the answer a pass, the sizes of the state's setting are within their limits
+--   mark_of S          the mark of a run that stands so
 --   due R              the vector whose row is due, one that is not there where the run is finished
 --   proceeded R a      the state after a row with the answer a, where one was due and the tests passed
 use Rattle.std.specs.Prelude.{ℕ, ◌≤◌, ◌≡◌, ◌&&◌, eqb}
@@ -12,7 +13,9 @@ use Rattle.ticket.specs.Rules.{unless, plain}
 use Rattle.ticket.specs.Laws.Limits.{Sizes}
 use Rattle.challenge.specs.declared.single.RowAnswer.{RowAnswer}
 use Rattle.run.specs.declared.Run.{Run}
-use Rattle.run.specs.Rules.{layer, is_finished, placed, moved}
+use Rattle.run.specs.declared.answers.Standing.{Standing}
+use Rattle.run.specs.declared.answers.Standing.TheVariants.{UnderWay, Caught, Complete, Refused}
+use Rattle.run.specs.Rules.{layer, is_finished, placed, moved, under_way, caught_mark, complete, refused}
 
 pub record DoneReady (P : PlainSetting) (τ i : ℕ) : Type 0 where
   pub sizes : Sizes (plain P)
@@ -21,6 +24,12 @@ pub record DoneReady (P : PlainSetting) (τ i : ℕ) : Type 0 where
 
 abbrev pub Answerable : Run → Answer → Type 0
 Answerable R a = a.number ≡ 0 → Sizes (layer R)
+
+abbrev pub mark_of : Standing → ℕ
+mark_of UnderWay = under_way
+mark_of Caught = caught_mark
+mark_of Complete = complete
+mark_of Refused = refused
 
 abbrev pub due : Run → ℕ
 due R = cond (is_finished R) R.setting.vectors R.vector

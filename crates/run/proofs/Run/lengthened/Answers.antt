@@ -1,4 +1,3 @@
-use native.Mathlib.Omega.{arith}
 use borrow.Author.Rules.{rules}
 use mathlib.Core.Path.{◌≡◌}
 use lib.ListN.{length}
@@ -6,7 +5,7 @@ use Rattle.run.specs.Rules.{most_numbers}
 use Rattle.run.proofs.Laws.Additions.{addition_fits}
 use Rattle.run.proofs.Run.lengthened.Goals as goal
 
-pub put-requires : goal.put-requires
-put-requires c =
+pub slice_bounds-copy_from_slice-end : goal.slice_bounds-copy_from_slice-end
+slice_bounds-copy_from_slice-end c =
     let long : length c.args.self.list ≡ most_numbers = search rules in
-    omega (arith, addition_fits c.requires (long), long)
+    search (rules, addition_fits c.requires long)
