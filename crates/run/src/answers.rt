@@ -1,6 +1,6 @@
 // Whether a run is finished, how it goes on, and what is said of it.
 ghost use Rattle.std.specs.Prelude.{◌≡◌};
-ghost use Rattle.ticket.specs.Rules.{plain};
+ghost use Rattle.ticket.specs.Rules.{answer, plain};
 ghost use Rattle.run.specs.Rules.{is_caught, is_finished, is_past, marked, products_done, standing, tested};
 ghost use Rattle.run.specs.Laws.States.{Answerable, DoneReady, due, mark_of, proceeded};
 
@@ -101,32 +101,30 @@ impl Run {
         let setting = self.setting;
         if self.is_past() {
             let products = products_done(setting, setting.vectors, 0);
-            return (
-                Standing::Complete,
-                Answer {
-                    products,
-                    ..Answer::PASSED
-                },
-            );
+            let answer = Answer {
+                products,
+                ..Answer::PASSED
+            };
+            return (Standing::Complete, answer);
         }
-        let here = Answer {
-            place: self.vector,
-            row: self.row,
-            ..Answer::PASSED
-        };
         if self.is_caught() {
             let products = products_done(setting, self.vector, self.row + 1);
-            return (
-                Standing::Caught,
-                Answer {
-                    number: 12,
-                    products,
-                    ..here
-                },
-            );
+            return (Standing::Caught, self.here(12, products));
         }
         let products = products_done(setting, self.vector, self.row);
-        (Standing::UnderWay, Answer { products, ..here })
+        (Standing::UnderWay, self.here(0, products))
+    }
+
+    // An answer about the next vector and row.
+    fn here(self, number: u32, products: u32) -> Answer
+        ensures { result ≡ answer number self.vector self.row products }
+    {
+        Answer {
+            number,
+            place: self.vector,
+            row: self.row,
+            products,
+        }
     }
 }
 

@@ -2,7 +2,6 @@
 --
 --   row_held, reading_held   the row and the tests of the state's list, as the code takes it
 --   begun_made         the state of a run that begins
---   put_list           a list with another in its middle
 --   lengthened_made    the state with a vector at the end of its list
 --   reading_passes, place_fits, vector_large, vector_zeros, vector_neither, vector_plain   the tests of the vector, as the code makes them
 --   addition_list, addition_vector, addition_last   the answer of the tests of an addition: by the state's list, by the vector, by the state
@@ -50,8 +49,6 @@ module _ (R : Run) (long : length R.list ≡ most_numbers) {G : Setting} (G-is :
   pub reading_held : {a : Answer} → a ≡ after (refusal (setting_number G) 0) (list_reading G x)
       → a ≡ after (refusal (setting_number (layer R)) 0) (list_reading (layer R) (held_list R))
   reading_held a-is = a-is ∙ rw (G-is, held_is)
-
--- lists of which the first numbers are those of another
 
 drop_replicate : {A : Type 0} (n m : ℕ) (a : A) → drop n (replicate m a) ≡ replicate (m - n) a
 drop_replicate zero m a = let all : m ≡ m - 0 = omega arith in ap (λ k. replicate k a) all

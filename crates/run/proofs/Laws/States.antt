@@ -5,6 +5,7 @@
 --   done_accepted, done_caught   those of an accepted ticket, and of a caught one
 --   unfinished, not_past   the next vector and row of a run that is not finished are there, and it is not caught
 --   standing_past, standing_caught, standing_under   the answer of a state by itself
+--   ready_here         its products can be counted
 --   tested_refused, tested_passed   an answer after tests
 --   testing_plain      the ordinary tests of a setting without a bias
 --   testing_passed     where the ordinary tests pass, setting, ticket and list do
@@ -30,6 +31,7 @@ use Rattle.ticket.proofs.Laws.First.{true_or_false}
 use Rattle.ticket.proofs.Laws.Passes.{passed_of}
 use Rattle.challenge.specs.declared.single.RowAnswer.{RowAnswer}
 use Rattle.challenge.specs.Rules.{list_reading, testing, challenge_products, caught_products, accepted, caught, product_at, balanced_at, row_made, no_row, row_check}
+use Rattle.ticket.specs.Laws.Limits.{Sizes}
 use Rattle.challenge.proofs.Laws.Checks.{rows_can}
 use Rattle.challenge.proofs.Laws.Kinds.{plain_row}
 use Rattle.challenge.proofs.Laws.Single.{row_checked, row_refused, row_beyond}
@@ -110,6 +112,14 @@ module _ (R : Run) where
         → standing R ≡ marked R under_way (answer 0 R.vector R.row (products_done (layer R) R.vector R.row))
     unfolding standing
     standing_under e = rw (inside, e)
+
+  -- the products of a state that is not past its end can be counted, before its row and after it
+  pub ready_here : Sizes (layer R) → is_past R ≡ false → DoneReady R.setting R.vector R.row × DoneReady R.setting R.vector (R.row + 1)
+  ready_here sizes e =
+      let there = not_past e in (
+        record { sizes = sizes; vectors = omega arith; rows = omega arith },
+        record { sizes = sizes; vectors = omega arith; rows = omega arith },
+      )
 
   module _ {a A : Answer} (a-is : a ≡ A) where
     pub tested_refused : (b : RunAnswer) → (a.number ≡ 0 → ⊥) → {r : RunAnswer} → r ≡ marked R refused a → r ≡ tested R A b
