@@ -1,10 +1,10 @@
 // The lists of states: made, read and lengthened.
-ghost use Rattle.std.specs.Prelude.{◌≡◌, cond, ◌≤◌, leb, length, take};
+ghost use Rattle.std.specs.Prelude.{◌≡◌, cond, ◌+◌, ◌≤◌, leb, length, take};
 ghost use Rattle.ticket.specs.Rules.{refusal, setting_number};
 ghost use Rattle.ticket.specs.Laws.Vectors.{vectored};
 ghost use Rattle.challenge.specs.Rules.{list_reading};
 ghost use Rattle.challenge.specs.Laws.Lengthened.{placed_after};
-ghost use Rattle.run.specs.Rules.{addition_reading, begun, lengthened, most_numbers, zeros};
+ghost use Rattle.run.specs.Rules.{addition_reading, begun, lengthened, most_numbers, overwritten, zeros};
 ghost use Rattle.run.specs.Laws.Additions.{Additional};
 
 use crate::{INNER, NUMBERS, Run};
@@ -40,7 +40,7 @@ pub(crate) fn begun(setting: PlainSetting, list: &[u32]) -> Run
     ensures { result ≡ begun setting list.now }
 {
     let mut held = [0; NUMBERS];
-    held[..list.len()].copy_from_slice(list);
+    put(list, &mut held, 0);
     Run {
         setting,
         list: held,
@@ -83,9 +83,8 @@ impl Run {
         ensures { result ≡ lengthened self vector.now }
     {
         let start = self.length as usize;
-        let end = start + vector.len();
-        self.list[start..end].copy_from_slice(vector);
-        self.length = end as u32;
+        put(vector, &mut self.list, start);
+        self.length = (start + vector.len()) as u32;
         self.setting.vectors += 1;
         self
     }
@@ -115,4 +114,12 @@ fn refusal(number: u32, place: u32) -> Answer
         row: 0,
         products: 0,
     }
+}
+
+// Numbers to a list, from a place on.
+fn put(numbers: &[u32], list: &mut [u32], start: usize)
+    requires { start + length numbers.now ≤ length list.old }
+    ensures { list.new ≡ overwritten list.old start numbers.now }
+{
+    list[start..start + numbers.len()].copy_from_slice(numbers);
 }

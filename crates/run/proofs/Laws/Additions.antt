@@ -55,17 +55,19 @@ drop_replicate zero m a = let all : m ≡ m - 0 = omega arith in ap (λ k. repli
 drop_replicate (suc n) zero a = let none : 0 ≡ 0 - suc n = omega arith in ap (λ k. replicate k a) none
 drop_replicate (suc n) (suc m) a = let less : m - n ≡ suc m - suc n = omega arith in drop_replicate n m a ∙ ap (λ k. replicate k a) less
 
-pub begun_made : (P : PlainSetting) (x : List ℕ) {list : List ℕ} {Z : Run} → list ≡ x → Z ≡ zeros
+pub begun_made : (P : PlainSetting) (x : List ℕ) {list : List ℕ} {Z : Run} → list ≡ overwritten (replicate most_numbers 0) 0 x → Z ≡ zeros
     → ◌≡◌ {A = Run} (record {
       setting = P;
-      list = list ++ drop (length x) (replicate most_numbers 0);
+      list = list;
       length = length x;
       vector = Z.vector;
       row = Z.row;
       u = Z.u;
       caught = Z.caught;
     }) (begun P x)
-begun_made P x e z = rw (e, z, drop_replicate {A = ℕ} (length x) most_numbers 0)
+begun_made P x e z =
+    let start : 0 + length x ≡ length x = omega arith in
+    rw (e, z, start, drop_replicate {A = ℕ} (length x) most_numbers 0)
 
 -- the tests of an addition
 
