@@ -6,11 +6,8 @@ ghost use Rattle.residue.specs.Rules.{modulus};
 ghost use Rattle.residue.specs.Laws.Modulo.{carried_sum};
 ghost use Rattle.ticket.specs.Laws.Decodes.{narrowed, negated_word, ShiftedList, NarrowList, LiftedList, LessList};
 
-use crate::parts::{RECORD, fewer, value_at};
+use crate::parts::{RECORD, value_at};
 use residue::{Entry, Residue};
-
-// 2^32
-const WORD: u64 = 4_294_967_296;
 
 // 2^15, by which 16-bit entries are shifted
 const NARROW: u32 = 32_768;
@@ -19,11 +16,9 @@ const NARROW: u32 = 32_768;
 pub fn shifted_entries(records: &[u8], shift: Residue, list: &mut [u32])
     ensures { ShiftedList records.now shift.0 list.old list.new }
 {
-    let count = fewer(records.len() / RECORD, list.len());
-    let mut k = 0;
-    while k < count {
+    let count = (records.len() / RECORD).min(list.len());
+    for k in 0..count {
         list[k] = shifted(value_at(records, k), shift.0).0;
-        k += 1;
     }
 }
 
@@ -31,11 +26,9 @@ pub fn shifted_entries(records: &[u8], shift: Residue, list: &mut [u32])
 pub fn narrow_entries(records: &[u8], list: &mut [i16])
     ensures { NarrowList records.now list.old list.new }
 {
-    let count = fewer(records.len() / RECORD, list.len());
-    let mut i = 0;
-    while i < count {
+    let count = (records.len() / RECORD).min(list.len());
+    for i in 0..count {
         list[i] = entry(shifted(value_at(records, i), NARROW)).0 as i16;
-        i += 1;
     }
 }
 
@@ -49,13 +42,11 @@ pub fn lifted_claims(
 )
     ensures { LiftedList quotients.now remainders.now half.0 scale list.old list.new }
 {
-    let claims = fewer(quotients.len() / RECORD, remainders.len() / RECORD);
-    let count = fewer(claims, list.len());
-    let mut c = 0;
-    while c < count {
+    let claims = (quotients.len() / RECORD).min(remainders.len() / RECORD);
+    let count = claims.min(list.len());
+    for c in 0..count {
         let quotient = shifted(value_at(quotients, c), half.0);
         list[c] = lifted(quotient, scale, value_at(remainders, c));
-        c += 1;
     }
 }
 
@@ -63,12 +54,9 @@ pub fn lifted_claims(
 pub fn subtract_entries(records: &[u8], list: &mut [u32])
     ensures { LessList records.now list.old list.new }
 {
-    let count = fewer(records.len() / RECORD, list.len());
-    let mut k = 0;
-    while k < count {
-        let negative = negated(value_at(records, k));
-        list[k] = std::num::wrapping_add_u32(list[k], negative);
-        k += 1;
+    let count = (records.len() / RECORD).min(list.len());
+    for k in 0..count {
+        list[k] = list[k].wrapping_add(negated(value_at(records, k)));
     }
 }
 
@@ -79,8 +67,8 @@ fn shifted(value: Residue, shift: u32) -> Residue
     ensures { result.0 ≡ carried_sum modulus value.0 shift }
 {
     let wrap = Residue::modulus() + 1;
-    let sum = std::num::wrapping_add_u32(value.0, shift);
-    Residue(std::num::wrapping_add_u32(sum, value.0 / (wrap / 2)) % wrap)
+    let sum = value.0.wrapping_add(shift);
+    Residue(sum.wrapping_add(value.0 / (wrap / 2)) % wrap)
 }
 
 // The negative of the entry that a value stands for, modulo 2^32.
@@ -88,7 +76,7 @@ fn negated(value: Residue) -> u32
     ensures { result ≡ negated_word value.0 }
 {
     let largest = Residue::modulus() / 2;
-    std::num::wrapping_sub_u32(largest, shifted(value, largest).0)
+    largest.wrapping_sub(shifted(value, largest).0)
 }
 
 // The entry of 16 bits whose value, shifted by 2^15, this is.
@@ -102,6 +90,5 @@ fn entry(shifted: Residue) -> Entry
 fn lifted(quotient: Residue, scale: u32, remainder: Residue) -> u32
     ensures { result ≡ (quotient.0 * scale + remainder.0) % 2 ^ 32 }
 {
-    let whole = (quotient.0 as u64) * (scale as u64) + (remainder.0 as u64);
-    (whole % WORD) as u32
+    quotient.0.wrapping_mul(scale).wrapping_add(remainder.0)
 }

@@ -1,5 +1,5 @@
 // The bytes of a ticket: its parts, their records, and the values of these.
-ghost use Rattle.std.specs.Prelude.{◌≡◌, ◌+◌, ◌*◌, ◌≤◌, min, length, if◌then◌else◌, nat_le};
+ghost use Rattle.std.specs.Prelude.{◌≡◌, ◌+◌, ◌*◌, ◌≤◌, length, if◌then◌else◌, nat_le};
 ghost use Rattle.algebra.specs.Rules.{word};
 ghost use Rattle.ticket.specs.Rules.{record_bytes, value_at};
 ghost use Rattle.ticket.specs.Laws.Limits.{clamped};
@@ -17,8 +17,8 @@ pub fn part(setting: Setting, ticket: &[u8], which: PartNumber) -> &[u8]
 {
     let first = RECORD * (setting.start(which) as usize);
     let past = first + RECORD * (setting.size(which) as usize);
-    let from = fewer(first, ticket.len());
-    let end = fewer(past, ticket.len());
+    let from = first.min(ticket.len());
+    let end = past.min(ticket.len());
     &ticket[from..end]
 }
 
@@ -45,14 +45,5 @@ pub(crate) fn value_at(records: &[u8], i: usize) -> Residue
 pub fn word(a: u8, b: u8, c: u8, d: u8) -> u32
     ensures { result ≡ word a b c d }
 {
-    (a as u32) + 256 * (b as u32) + 65536 * (c as u32) + 16_777_216 * (d as u32)
-}
-
-pub(crate) fn fewer(m: usize, n: usize) -> usize
-    ensures { result ≡ min m n }
-{
-    if n < m {
-        return n;
-    }
-    m
+    u32::from_le_bytes([a, b, c, d])
 }

@@ -33,13 +33,6 @@ pub struct BiasSetting {
 }
 
 impl PlainSetting {
-    // The setting without a bias.
-    pub fn plain(self) -> Setting
-        ensures { result ≡ plain self }
-    {
-        self.numbered(0, 0)
-    }
-
     // The setting with or without a bias, and with its bound.
     pub fn numbered(self, biased: u32, bias: u32) -> Setting
         ensures { result ≡ numbered self biased bias }
@@ -59,11 +52,20 @@ impl PlainSetting {
     }
 }
 
-impl BiasSetting {
-    // The setting with a bias.
-    pub fn biased(self) -> Setting
-        ensures { result ≡ with_bias self.setting self.bias }
-    {
-        self.setting.numbered(1, self.bias)
+// The setting without a bias.
+impl From<PlainSetting> for Setting {
+    ghost from_gives = { λ public setting. setting ≡ plain public };
+
+    fn from(public: PlainSetting) -> Setting {
+        public.numbered(0, 0)
+    }
+}
+
+// The setting with a bias.
+impl From<BiasSetting> for Setting {
+    ghost from_gives = { λ public setting. setting ≡ with_bias public.setting public.bias };
+
+    fn from(public: BiasSetting) -> Setting {
+        public.setting.numbered(1, public.bias)
     }
 }

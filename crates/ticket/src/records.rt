@@ -1,6 +1,6 @@
 // Reading a ticket: the tests in order, part after part and record after record.
 ghost use Rattle.std.specs.Prelude.{◌≡◌, ◌+◌, ◌*◌, ◌^◌, ◌<◌, ◌≤◌, length};
-ghost use Rattle.ticket.specs.Rules.{reading, record_bytes, records, part, record_number, first_refusal, formed, half_range};
+ghost use Rattle.ticket.specs.Rules.{answered, failed, reading, record_bytes, records, part, record_number, first_refusal, formed, half_range};
 ghost use Rattle.residue.specs.Rules.{modulus};
 ghost use Rattle.ticket.specs.Laws.Limits.{Within};
 ghost use Rattle.ticket.specs.Laws.All.{all};
@@ -9,8 +9,7 @@ ghost use Rattle.ticket.specs.Laws.Passing.{passing, passing_at, row_passing};
 ghost use Rattle.ticket.specs.Laws.Parts.{MakesTests, PartReady, ReadReady, form_bytes};
 
 use crate::parts::{RECORD, value_at, word};
-use crate::setting::unless;
-use crate::{Answer, PartNumber, Setting};
+use crate::{PartNumber, Reason, Refusal, Setting};
 use residue::Residue;
 
 // Rows of at most so many records are not worth the pass without branches.
@@ -25,68 +24,57 @@ struct Form {
     columns: u8,
     shift: u32,
     limit: u32,
-    outside: u32,
+    outside: Reason,
 }
 
-// The answer of the reading and range checks, tests 1 to 9 and 17 to 19; its number is 0 where the ticket passes them.
-pub fn read(setting: Setting, ticket: &[u8]) -> Answer
-    ensures { result ≡ reading setting ticket.now }
+impl Form {
+    // How many records the part has.
+    fn size(self) -> usize
+        ensures { result ≡ self.rows * self.columns }
+    {
+        usize::from(self.rows) * usize::from(self.columns)
+    }
+}
+
+// The reading and range checks, tests 1 to 9 and 17 to 19.
+pub fn read(setting: Setting, ticket: &[u8]) -> Result<(), Refusal>
+    ensures { answered result ≡ reading setting ticket.now }
 {
     let half = setting.half();
-    let number = setting.number_of(half);
-    if number != 0 {
-        return Answer {
-            number,
-            place: 0,
-            row: 0,
-            products: 0,
-        };
-    }
+    setting.test(half)?;
     if ticket.len() != setting.length() {
-        return Answer {
-            number: 4,
-            place: 0,
-            row: 0,
-            products: 0,
-        };
+        return Err(Refusal::from(Reason::Length));
     }
     read_records(setting, ticket, half)
 }
 
-// The answer of the tests of the records, where setting and length pass theirs: that of the first part that does not pass. A part
-// starts where the one before it ends.
-fn read_records(setting: Setting, ticket: &[u8], half: Residue) -> Answer
+// The tests of the records, part after part, where setting and length pass theirs. A part starts where the one before it ends.
+fn read_records(setting: Setting, ticket: &[u8], half: Residue) -> Result<(), Refusal>
     requires { ReadReady setting ticket.now × (half.0 ≡ half_range setting) }
-    ensures { result ≡ first_refusal 0 (records setting) (record_number setting ticket.now) }
+    ensures { answered result ≡ first_refusal 0 (records setting) (record_number setting ticket.now) }
 {
-    let mut start: usize = 0;
-    let mut which: u32 = 0;
-    while which < PartNumber::COUNT {
+    let mut start = 0;
+    for which in 0..PartNumber::COUNT {
         let form = form_of(setting, PartNumber(which), half);
-        let answer = read_part(form, ticket, start);
-        if answer.number != 0 {
-            return answer;
-        }
-        start += (form.rows as usize) * (form.columns as usize);
-        which += 1;
+        read_part(form, ticket, start)?;
+        start += form.size();
     }
-    Answer::PASSED
+    Ok(())
 }
 
-// The answer of a part, the first record of which is record start; one without columns has no records. The tests are made without a
+// The tests of a part, the first record of which is record start; one without columns has no records. They are made without a
 // branch first; one by one, for the first that fails, only where some record fails.
-fn read_part(form: Form, ticket: &[u8], start: usize) -> Answer
+fn read_part(form: Form, ticket: &[u8], start: usize) -> Result<(), Refusal>
     requires { PartReady form start ticket.now }
-    ensures { result ≡ part_answer form start (form_bytes form start ticket.now) }
+    ensures { answered result ≡ part_answer form start (form_bytes form start ticket.now) }
 {
     if form.columns == 0 {
-        return Answer::PASSED;
+        return Ok(());
     }
     let first = RECORD * start;
-    let size = RECORD * ((form.rows as usize) * (form.columns as usize));
-    let records = &ticket[first..first + size];
+    let records = &ticket[first..first + RECORD * form.size()];
     if (SHORT_ROW < form.columns) && passes(records, form) {
-        return Answer::PASSED;
+        return Ok(());
     }
     first_refusal(records, form, start as u32)
 }
@@ -96,42 +84,37 @@ fn form_of(setting: Setting, which: PartNumber, half: Residue) -> Form
     requires { Within setting × (which.0 < 5) × (half.0 ≡ half_range setting) }
     ensures { MakesTests result (part setting which.0) }
 {
-    let part = which.0;
     let rows = setting.rows as u8;
     let inner = setting.inner as u8;
     let columns = setting.columns as u8;
-    if part == 0 {
-        return entries_form(1, rows, inner, setting.bound, 7);
-    }
-    if part == 1 {
-        return entries_form(2, inner, columns, setting.bound, 7);
-    }
-    if part == 2 {
-        let width = setting.bias_columns() as u8;
-        return entries_form(5, rows, width, setting.largest_bias(), 18);
-    }
-    if part == 3 {
-        return Form {
+    match which.0 {
+        0 => entries_form(1, rows, inner, setting.bound, Reason::Entry),
+        1 => entries_form(2, inner, columns, setting.bound, Reason::Entry),
+        2 => {
+            let width = setting.bias_columns() as u8;
+            entries_form(5, rows, width, setting.largest_bias(), Reason::BiasEntry)
+        }
+        3 => Form {
             kind: 3,
             rows,
             columns,
             shift: half.0,
             limit: 2 * half.0,
-            outside: 8,
-        };
-    }
-    Form {
-        kind: 4,
-        rows,
-        columns,
-        shift: 0,
-        limit: setting.scale,
-        outside: 9,
+            outside: Reason::Quotient,
+        },
+        _ => Form {
+            kind: 4,
+            rows,
+            columns,
+            shift: 0,
+            limit: setting.scale,
+            outside: Reason::Remainder,
+        },
     }
 }
 
 // What the records of a matrix of entries have to be: its values stand for numbers from -bound to bound.
-fn entries_form(kind: u8, rows: u8, columns: u8, bound: u32, outside: u32) -> Form
+fn entries_form(kind: u8, rows: u8, columns: u8, bound: u32, outside: Reason) -> Form
     requires { 2 * bound < modulus }
     ensures { result ≡ entries_form kind rows columns bound outside }
 {
@@ -150,15 +133,13 @@ fn passes(records: &[u8], form: Form) -> bool
     requires { Holds records.now form }
     ensures { result ≡ all (form.rows * form.columns) (passing records.now form) }
 {
-    let mut ok = true;
-    let mut row: u8 = 0;
-    let mut start: usize = 0;
-    while ok && (row < form.rows) {
-        ok = row_passes(records, form, start, row);
-        start += form.columns as usize;
-        row += 1;
+    let columns = usize::from(form.columns);
+    for row in 0..form.rows {
+        if !row_passes(records, form, usize::from(row) * columns, row) {
+            return false;
+        }
     }
-    ok
+    true
 }
 
 // Whether the records of a row pass, the first of which is record start.
@@ -167,12 +148,8 @@ fn row_passes(records: &[u8], form: Form, start: usize, row: u8) -> bool
     ensures { result ≡ all form.columns (row_passing records.now form start row) }
 {
     let mut ok = true;
-    let mut i = start;
-    let mut column: u8 = 0;
-    while column < form.columns {
-        ok = ok & record_passes(records, form, i, row, column);
-        i += 1;
-        column += 1;
+    for column in 0..form.columns {
+        ok &= record_passes(records, form, start + usize::from(column), row, column);
     }
     ok
 }
@@ -194,51 +171,46 @@ fn in_range(value: Residue, form: Form) -> bool
 {
     let low = form.limit - form.shift;
     let size = Residue::modulus() - form.limit;
-    size <= std::num::wrapping_sub_u32(value.0, low)
+    size <= value.0.wrapping_sub(low)
 }
 
-// The answer of a part, the first record of which is record start of the ticket.
-fn first_refusal(records: &[u8], form: Form, start: u32) -> Answer
+// The tests of a part one by one, the first record of which is record start of the ticket.
+fn first_refusal(records: &[u8], form: Form, start: u32) -> Result<(), Refusal>
     requires { Holds records.now form × (start < 2 ^ 16) }
-    ensures { result ≡ part_answer form start records.now }
+    ensures { answered result ≡ part_answer form start records.now }
 {
-    let count = (form.rows as u32) * (form.columns as u32);
-    let mut i: u32 = 0;
-    let mut row: u8 = 0;
-    let mut column: u8 = 0;
-    while i < count {
-        let number = record_number(records, form, i, row, column);
-        if number != 0 {
-            let place = start + i;
-            return Answer {
-                number,
-                place,
-                row: 0,
-                products: 0,
-            };
-        }
-        i += 1;
-        column += 1;
-        if column == form.columns {
-            column = 0;
-            row += 1;
+    let Form { rows, columns, .. } = form;
+    for row in 0..rows {
+        let first = u32::from(row) * u32::from(columns);
+        for column in 0..columns {
+            let i = first + u32::from(column);
+            if let Err(reason) = test_record(records, form, i, row, column) {
+                return Err(Refusal {
+                    reason,
+                    place: start + i,
+                });
+            }
         }
     }
-    Answer::PASSED
+    Ok(())
 }
 
-// The first of the tests that record i fails, which stands in the given row and column; 0 where it passes.
-fn record_number(records: &[u8], form: Form, i: u32, row: u8, column: u8) -> u32
+// The tests of record i, in order, which stands in the given row and column.
+fn test_record(records: &[u8], form: Form, i: u32, row: u8, column: u8) -> Result<(), Reason>
     requires { (record_bytes * i + record_bytes ≤ length records.now) × Ranged form }
-    ensures { result ≡ tested_at records.now form i row column }
+    ensures { failed result ≡ tested_at records.now form i row column }
 {
     if !formed(records, i as usize, form.kind, row, column) {
-        return 5;
+        return Err(Reason::Form);
     }
     let value = value_at(records, i as usize);
-    let least = value.is_least();
-    let ranged = in_range(value, form);
-    unless(least, 6, unless(ranged, form.outside, 0))
+    if !value.is_least() {
+        return Err(Reason::Residue);
+    }
+    if !in_range(value, form) {
+        return Err(form.outside);
+    }
+    Ok(())
 }
 
 // Whether record i has the kind, a zero byte, the row and the column.

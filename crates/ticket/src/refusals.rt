@@ -50,7 +50,7 @@ pub struct Refusal {
 
 // A test that has one place only.
 impl From<Reason> for Refusal {
-    ghost from_gives = { λ reason refused. (refused.reason ≡ reason) × (refused.place ≡ 0) };
+    ghost from_gives = { λ reason refused. refused ≡ record { reason = reason; place = 0 } };
 
     fn from(reason: Reason) -> Refusal {
         Refusal { reason, place: 0 }

@@ -1,12 +1,13 @@
 // The setting: its tests, 1, 2, 17, 19 and 3, and what it says of a ticket. The calls that say this take every setting; of one beyond its
 // limits they say what the limits come to, so that nothing wraps.
 ghost use Rattle.std.specs.Prelude.{◌≡◌, ◌+◌, ◌*◌, min};
-ghost use Rattle.ticket.specs.Rules.{unless, sizes_within, numbers_within, bias_within, rounding_within, within};
+ghost use Rattle.ticket.specs.Rules.{failed, sizes_within, numbers_within, bias_within, rounding_within, within};
 ghost use Rattle.ticket.specs.Rules.{bias_bound, bias_columns, part, part_size, start, ticket_length, half_range, sum_products};
 ghost use Rattle.ticket.specs.Laws.Limits.{Sizes, Numbers, Clamped, clamped, fits_by, number_by};
 ghost use Rattle.ticket.specs.Laws.Vectors.{vectored};
 ghost use Rattle.ticket.specs.Laws.Widths.{widened};
 
+use crate::Reason;
 use crate::parts::RECORD;
 use residue::Residue;
 
@@ -27,7 +28,7 @@ pub struct Setting {
 }
 
 // Which part of a ticket, by its number in the ticket's order.
-#[derive(Clone, Copy)]
+#[derive(Clone, Copy, Debug, PartialEq, Eq)]
 pub struct PartNumber(pub u32);
 
 impl PartNumber {
@@ -66,114 +67,92 @@ impl Setting {
 
     const MOST_BIAS_BOUND: u32 = 32_768 * 32_768;
 
-    // the number of a setting that is within its limits and does not fit
-    pub const UNFIT: u32 = 3;
-
     // the bytes of the longest ticket without a bias, which is that of the largest sizes
     pub const LONGEST_TICKET: usize = RECORD
         * (Setting::MOST_ROWS * Setting::MOST_INNER
             + Setting::MOST_INNER * Setting::MOST_COLUMNS
             + 2 * (Setting::MOST_ROWS * Setting::MOST_COLUMNS)) as usize;
 
-    // The first of the tests 1, 2, 17, 19 and 3 that the setting fails, 0 where it passes them; by half of the quotients' range, which
-    // the caller has worked out.
-    pub fn number_of(self, half: Residue) -> u32
-        ensures { result ≡ number_by self half.0 }
+    // The tests 1, 2, 17, 19 and 3, in order; by half of the quotients' range, which the caller has worked out.
+    pub fn test(self, half: Residue) -> Result<(), Reason>
+        ensures { failed result ≡ number_by self half.0 }
     {
         if !self.sizes_within() {
-            return 1;
+            return Err(Reason::Sizes);
         }
         if !self.numbers_within() {
-            return 2;
+            return Err(Reason::Numbers);
         }
-        let fitting = unless(self.fits(half), Setting::UNFIT, 0);
-        let rounding = unless(self.rounding_within(), 19, fitting);
-        unless(self.bias_within(), 17, rounding)
+        if !self.bias_within() {
+            return Err(Reason::BiasBound);
+        }
+        if !self.rounding_within() {
+            return Err(Reason::Rounding);
+        }
+        if !self.fits(half) {
+            return Err(Reason::Fit);
+        }
+        Ok(())
     }
 
     // The setting with another width.
-    pub fn with_width(mut self, width: u32) -> Setting
+    pub fn with_width(self, width: u32) -> Setting
         ensures { result ≡ widened self width }
     {
-        self.width = width;
-        self
+        Setting { width, ..self }
     }
 
     // The setting with another number of vectors.
-    pub fn with_vectors(mut self, vectors: u32) -> Setting
+    pub fn with_vectors(self, vectors: u32) -> Setting
         ensures { result ≡ vectored self vectors }
     {
-        self.vectors = vectors;
-        self
+        Setting { vectors, ..self }
     }
 
     // The largest absolute value of a bias entry; 0 where there is no bias.
     pub fn largest_bias(self) -> u32
         ensures { result ≡ bias_bound self }
     {
-        if 0 < self.biased {
-            return self.bias;
-        }
-        0
+        if 0 < self.biased { self.bias } else { 0 }
     }
 
     // How many columns the bias has; 0 where there is none.
     pub fn bias_columns(self) -> u32
         ensures { result ≡ bias_columns self }
     {
-        if 0 < self.biased {
-            return self.columns;
-        }
-        0
+        if 0 < self.biased { self.columns } else { 0 }
     }
 
     // How many records a part has.
     pub fn size(self, which: PartNumber) -> u32
         ensures { result ≡ part_size (part (clamped self) which.0) }
     {
-        let part = which.0;
         let s = self.clamped();
-        if part == 0 {
-            return s.rows * s.inner;
+        match which.0 {
+            0 => s.rows * s.inner,
+            1 => s.inner * s.columns,
+            2 => s.rows * s.bias_columns(),
+            3 | 4 => s.rows * s.columns,
+            _ => 0,
         }
-        if part == 1 {
-            return s.inner * s.columns;
-        }
-        if part == 2 {
-            return s.rows * s.bias_columns();
-        }
-        if 5 <= part {
-            return 0;
-        }
-        s.rows * s.columns
     }
 
     // The number of the first record of a part; past the last part, how many records a ticket has.
     pub fn start(self, which: PartNumber) -> u32
         ensures { result ≡ start (clamped self) which.0 }
     {
-        let part = which.0;
         let b = self.size(PartNumber::A);
         let bias = b + self.size(PartNumber::B);
         let quotients = bias + self.size(PartNumber::BIAS);
         let remainders = quotients + self.size(PartNumber::QUOTIENTS);
-        let end = remainders + self.size(PartNumber::REMAINDERS);
-        if part == 0 {
-            return 0;
+        match which.0 {
+            0 => 0,
+            1 => b,
+            2 => bias,
+            3 => quotients,
+            4 => remainders,
+            _ => remainders + self.size(PartNumber::REMAINDERS),
         }
-        if part == 1 {
-            return b;
-        }
-        if part == 2 {
-            return bias;
-        }
-        if part == 3 {
-            return quotients;
-        }
-        if part == 4 {
-            return remainders;
-        }
-        end
     }
 
     // How many bytes a ticket has.
@@ -189,9 +168,10 @@ impl Setting {
     {
         let width = self.clamped().width;
         if width == 0 {
-            return Residue::ONE;
+            Residue::ONE
+        } else {
+            Residue::power_of_two(width - 1)
         }
-        Residue::power_of_two(width - 1)
     }
 
     // What is added to a sum, and to what a claim puts for it, so that neither is negative and the sum can be divided; by half of the
@@ -214,16 +194,12 @@ impl Setting {
         ensures { (result ≡ clamped self) × Clamped result }
     {
         Setting {
-            rows: least(self.rows, Setting::MOST_ROWS),
-            inner: least(self.inner, Setting::MOST_INNER),
-            columns: least(self.columns, Setting::MOST_COLUMNS),
-            vectors: self.vectors,
-            scale: least(self.scale, Setting::MOST_SCALE),
-            bound: self.bound,
-            width: least(self.width, Setting::MOST_WIDTH),
-            rounding: self.rounding,
-            biased: self.biased,
-            bias: self.bias,
+            rows: self.rows.min(Setting::MOST_ROWS),
+            inner: self.inner.min(Setting::MOST_INNER),
+            columns: self.columns.min(Setting::MOST_COLUMNS),
+            scale: self.scale.min(Setting::MOST_SCALE),
+            width: self.width.min(Setting::MOST_WIDTH),
+            ..self
         }
     }
 
@@ -274,23 +250,4 @@ fn within(low: u32, high: u32, n: u32) -> bool
     ensures { result ≡ within low high n }
 {
     (low <= n) & (n <= high)
-}
-
-fn least(n: u32, most: u32) -> u32
-    ensures { result ≡ min n most }
-{
-    if most < n {
-        return most;
-    }
-    n
-}
-
-// The rest where a test passed, else the number of its refusal.
-pub(crate) fn unless(passed: bool, number: u32, rest: u32) -> u32
-    ensures { result ≡ unless passed number rest }
-{
-    if passed {
-        return rest;
-    }
-    number
 }

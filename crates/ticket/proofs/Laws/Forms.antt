@@ -10,15 +10,16 @@
 --   FormedBytes b i κ r c, formed_exactly   the form of a record, byte by byte
 --   value_is             the value of a record, by its bytes
 use Rattle.std.specs.Prelude.{◌≡◌, ℕ, ◌+◌, ◌-◌, ◌*◌, ◌<◌, ◌≤◌, Bool, true, false, ◌↔◌, List, length, take, drop, ◌==◌, ◌≢◌, nat_lt, slice_index, refl}
-use Rattle.std.proofs.Math.Decide.{ℕ_discrete, dec_le}
+use Rattle.std.proofs.Math.Decide.{ℕ_discrete}
 use Rattle.std.proofs.Common.{arith, sym, ◌∙◌, lit<}
-use borrow.Author.Tests.{eq-eqb, eqb-true, le-ltb}
+use borrow.Author.Tests.{eq-eqb, eqb-true, ltb-true}
 use Rattle.residue.specs.Rules.{modulus}
 use Rattle.algebra.specs.Rules.{word}
 use Rattle.algebra.proofs.Laws.Bytes.WordEqb.{word_eqb}
 use Rattle.algebra.proofs.Laws.Fills.{part_of, part_long}
 use Rattle.algebra.proofs.Laws.Positions.{Position, row_of, column_of}
-use Rattle.ticket.specs.Rules.{unless, first_failed, record_bytes, byte_at, formed, value_at, half_range, refusal, first_refusal}
+use Rattle.ticket.specs.declared.refusals.Reason.TheVariants.{Quotient, Remainder}
+use Rattle.ticket.specs.Rules.{unless, reason_number, first_failed, record_bytes, byte_at, formed, value_at, half_range, refusal, first_refusal}
 use Rattle.ticket.proofs.Laws.Limits.{both}
 use Rattle.ticket.proofs.Laws.Scans.{refusal_is}
 use Rattle.ticket.specs.declared.setting.Setting.{Setting}
@@ -27,10 +28,10 @@ use Rattle.ticket.specs.Laws.Forms.{range_test, tested_at, tested}
 
 abbrev pub quotients_form : Setting → Form
 quotients_form G =
-    record { kind = 3; rows = G.rows; columns = G.columns; shift = half_range G; limit = 2 * half_range G; outside = 8 }
+    record { kind = 3; rows = G.rows; columns = G.columns; shift = half_range G; limit = 2 * half_range G; outside = Quotient }
 
 abbrev pub remainders_form : Setting → Form
-remainders_form G = record { kind = 4; rows = G.rows; columns = G.columns; shift = 0; limit = G.scale; outside = 9 }
+remainders_form G = record { kind = 4; rows = G.rows; columns = G.columns; shift = 0; limit = G.scale; outside = Remainder }
 
 abbrev pub record_slice : List ℕ → ℕ → List ℕ
 record_slice b i = take (record_bytes * i + record_bytes - record_bytes * i) (drop (record_bytes * i) b)
@@ -63,16 +64,15 @@ module _ (bytes : List ℕ) (F : Form) (i row column : ℕ) where
   unfolding tested_at first_failed
   tested_unformed form = rw form
 
-  pub tested_formed : {least ranged : Bool} {value : ℕ}
-      → formed bytes i F.kind row column ≡ true → value ≡ value_at bytes i → least ≡ nat_lt value modulus
-      → (value < modulus → ranged ≡ range_test F value)
-      → unless least 6 (unless ranged F.outside 0) ≡ tested_at bytes F i row column
-  unfolding tested_at first_failed
-  tested_formed {value = value} form value_is least ranged =
-      elim (dec_le modulus value) [
-        | yes h ↦ rw (form, ← value_is, least, le-ltb value modulus h)
-        | no h ↦ rw (form, ← value_is, least, ranged (omega arith))
-      ]
+  module _ (form : formed bytes i F.kind row column ≡ true) {value : ℕ} (value_is : value ≡ value_at bytes i) where
+    pub tested_large : nat_lt value modulus ≡ false → 6 ≡ tested_at bytes F i row column
+    unfolding tested_at first_failed
+    tested_large least = rw (form, ← value_is, least)
+
+    module _ {ranged : Bool} (least : nat_lt value modulus ≡ true) (in_range : value < modulus → ranged ≡ range_test F value) where
+      pub range_tested : unless ranged (reason_number F.outside) 0 ≡ tested_at bytes F i row column
+      unfolding tested_at first_failed
+      range_tested = rw (form, ← value_is, least, in_range (ltb-true _ _ least))
 
 module _ (bytes : List ℕ) (F : Form) {i row column number : ℕ} (at : Position F.columns i row column)
     (number_is : number ≡ tested_at bytes F i row column) (before : (k : ℕ) → k < i → tested bytes F k ≡ 0) where

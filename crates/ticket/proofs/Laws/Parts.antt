@@ -24,7 +24,9 @@ use Rattle.algebra.proofs.Laws.Fills.{part_long}
 use Rattle.ticket.specs.declared.setting.Setting.{Setting}
 use Rattle.ticket.specs.declared.Answer.{Answer}
 use Rattle.ticket.specs.declared.records.Form.{Form}
-use Rattle.ticket.specs.Rules.{test, first_failed, parts, part, of_a, of_b, of_bias, of_quotients, of_remainders, bias_bound, bias_columns, part_size, start, records, record_bytes, is_entry, is_quotient, shifted_quotient, ticket_length, formed, value_at, part_tests, record_tests, record_number, refusal, first_refusal}
+use Rattle.ticket.specs.declared.refusals.Reason.{Reason}
+use Rattle.ticket.specs.declared.refusals.Reason.TheVariants.{Entry, BiasEntry}
+use Rattle.ticket.specs.Rules.{reason_number, test, first_failed, parts, part, of_a, of_b, of_bias, of_quotients, of_remainders, bias_bound, bias_columns, part_size, start, records, record_bytes, is_entry, is_quotient, shifted_quotient, ticket_length, formed, value_at, part_tests, record_tests, record_number, refusal, first_refusal}
 use Rattle.ticket.specs.Laws.Limits.{Numbers, Within}
 use Rattle.ticket.proofs.Laws.Limits.BiasSmall.{bias_small}
 use Rattle.ticket.proofs.Laws.Limits.{half_small, half_double}
@@ -57,13 +59,13 @@ entry_range p above T v h k =
 
 by_shift : (F : Form) (range : ℕ → Bool) → ((v : ℕ) → v < modulus → nat_lt ((v + F.shift) % modulus) F.limit ≡ range v)
     → F.shift ≤ F.limit → F.limit ≤ modulus
-    → MakesTests F (record { kind = F.kind; rows = F.rows; columns = F.columns; range = range; outside = F.outside })
+    → MakesTests F (record { kind = F.kind; rows = F.rows; columns = F.columns; range = range; outside = reason_number F.outside })
 by_shift F range same shift limit =
     record { kind = refl; rows = refl; columns = refl; outside = refl; range = same; ranged = record { shift = shift; limit = limit } }
 
-entries_make : (kind rows columns bound outside : ℕ) → 2 * bound < modulus
+entries_make : (kind rows columns bound : ℕ) (outside : Reason) → 2 * bound < modulus
     → MakesTests (entries_form kind rows columns bound outside)
-    (record { kind = kind; rows = rows; columns = columns; range = is_entry bound; outside = outside })
+    (record { kind = kind; rows = rows; columns = columns; range = is_entry bound; outside = reason_number outside })
 unfolding is_entry
 entries_make kind rows columns bound outside small =
     by_shift (entries_form kind rows columns bound outside) (is_entry bound)
@@ -76,9 +78,9 @@ module _ {G : Setting} (within : Within G) where
   pub bounds_small : (2 * G.bound < modulus) × (2 * bias_bound G < modulus)
   bounds_small = (omega (arith, numbers.bound, modulus_above), bias_small numbers within.fitted)
 
-  pub forms_make : MakesTests (entries_form 1 G.rows G.inner G.bound 7) (part G of_a)
-      × MakesTests (entries_form 2 G.inner G.columns G.bound 7) (part G of_b)
-      × MakesTests (entries_form 5 G.rows (bias_columns G) (bias_bound G) 18) (part G of_bias)
+  pub forms_make : MakesTests (entries_form 1 G.rows G.inner G.bound Entry) (part G of_a)
+      × MakesTests (entries_form 2 G.inner G.columns G.bound Entry) (part G of_b)
+      × MakesTests (entries_form 5 G.rows (bias_columns G) (bias_bound G) BiasEntry) (part G of_bias)
       × MakesTests (quotients_form G) (part G of_quotients)
       × MakesTests (remainders_form G) (part G of_remainders)
   unfolding parts part shifted_quotient

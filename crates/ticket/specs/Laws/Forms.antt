@@ -1,6 +1,6 @@
 -- The form that the code gives the tests of a part, and that they are the rule's.
 --
---   entries_form κ m n T c   the form of m by n entries from -T to T, of kind κ, where c is the number of one out of range
+--   entries_form κ m n T c   the form of m by n entries from -T to T, of kind κ, where c is the reason for one out of range
 --   range_test F x        the value x is in the range of F
 --   tested_at b F i r c   the number of record i of b by the form F, which stands in row r, column c
 --   tested b F i         the same, the row and the column from i
@@ -9,11 +9,12 @@
 --   Holds b F            b begins with the part of form F, which is not large, and its range is within p
 use Rattle.std.specs.Prelude.{ℕ, ◌+◌, ◌*◌, ◌/◌, ◌%◌, ◌^◌, ◌<◌, ◌≤◌, Bool, List, [], ◌∷◌, length, nat_lt}
 use Rattle.residue.specs.Rules.{modulus}
-use Rattle.ticket.specs.Rules.{Test, test, first_failed, record_bytes, formed, value_at, first_refusal}
+use Rattle.ticket.specs.declared.refusals.Reason.{Reason}
+use Rattle.ticket.specs.Rules.{Test, test, reason_number, first_failed, record_bytes, formed, value_at, first_refusal}
 use Rattle.ticket.specs.declared.Answer.{Answer}
 use Rattle.ticket.specs.declared.records.Form.{Form}
 
-abbrev pub entries_form : ℕ → ℕ → ℕ → ℕ → ℕ → Form
+abbrev pub entries_form : ℕ → ℕ → ℕ → ℕ → Reason → Form
 entries_form kind rows columns bound outside =
     record { kind = kind; rows = rows; columns = columns; shift = bound; limit = 2 * bound + 1; outside = outside }
 
@@ -25,7 +26,7 @@ abbrev pub tests_at : List ℕ → Form → ℕ → ℕ → ℕ → List Test
 tests_at bytes F i row column =
     test (formed bytes i F.kind row column) 5
     ∷ test (nat_lt (value_at bytes i) modulus) 6
-    ∷ test (range_test F (value_at bytes i)) F.outside
+    ∷ test (range_test F (value_at bytes i)) (reason_number F.outside)
     ∷ []
 
 unfoldable pub tested_at : List ℕ → Form → ℕ → ℕ → ℕ → ℕ

@@ -8,7 +8,7 @@ use Rattle.std.specs.Prelude.{◌≡◌, ℕ, ◌+◌, ◌-◌, ◌*◌, ◌%◌
 use Rattle.residue.specs.Rules.{modulus}
 use Rattle.ticket.specs.declared.setting.Setting.{Setting}
 use Rattle.ticket.specs.declared.records.Form.{Form}
-use Rattle.ticket.specs.Rules.{Part, record_bytes, ticket_length}
+use Rattle.ticket.specs.Rules.{Part, reason_number, record_bytes, ticket_length}
 use Rattle.ticket.specs.Laws.Limits.{Counts, Within}
 use Rattle.ticket.specs.Laws.Forms.{Ranged}
 
@@ -17,7 +17,7 @@ pub record MakesTests (F : Form) (P : Part) : Type 0 where
   pub kind : F.kind ≡ P.kind
   pub rows : F.rows ≡ P.rows
   pub columns : F.columns ≡ P.columns
-  pub outside : F.outside ≡ P.outside
+  pub outside : reason_number F.outside ≡ P.outside
   pub range : (v : ℕ) → v < modulus → nat_lt ((v + F.shift) % modulus) F.limit ≡ P.range v
   pub ranged : Ranged F
 

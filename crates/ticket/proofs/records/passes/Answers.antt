@@ -1,18 +1,23 @@
-use Rattle.std.proofs.Common.{◌<◌, sym, ◌∙◌, mul-le-mul_right, arith}
+use Rattle.std.proofs.Common.{◌≡◌, ◌&&◌, ◌+◌, ◌*◌, true, ap, refl, sym, ◌∙◌, zero-mul, mul-le-mul_right, arith}
 use Rattle.ticket.proofs.Laws.All.{all_none, all_fails}
 use Rattle.ticket.proofs.Laws.Passing.{rows_passing}
 use Rattle.ticket.proofs.records.passes.Goals as goal
 
-pub loop-ok-init : goal.loop-ok-init
-loop-ok-init c = (omega arith, omega arith, all_none _)
+pub loop-row-init : goal.loop-row-init
+loop-row-init c = rw (zero-mul c.args.form.columns) (all_none _)
 
-pub loop-ok-preserved : goal.loop-ok-preserved
-loop-ok-preserved c = let below : c.loop-ok.row < c.args.form.rows = c.if-row-form.true in (
-  omega (arith, below),
-  omega arith,
-  rows_passing _ _ _ c.loop-ok.invariant.1 (sym c.loop-ok-test.true ∙ c.loop-ok.invariant.2) c.row_passes-ok.ensures,
-)
+pub returns-then-not-row_passes : goal.returns-then-not-row_passes
+returns-then-not-row_passes c =
+    let columns = c.args.form.columns in
+    let rows = mul-le-mul_right columns c.loop-row-test.true in
+    sym (all_fails _ (omega (arith, rows))
+    (sym (rows_passing c.args.records.now c.args.form c.loop-row.row refl c.loop-row.invariant (c.row_passes.ensures ∙ rw (c.from.ensures, c.from-columns.ensures)))
+    ∙ ap (λ b. true && b) c.if-not-row_passes.true))
 
-pub returns-after-loop-ok : goal.returns-after-loop-ok
-returns-after-loop-ok c = let rows = mul-le-mul_right c.args.form.columns c.loop-ok.invariant.0 in
-    c.loop-ok-test.false ∙ sym (all_fails _ (omega (arith, rows)) (sym c.loop-ok.invariant.2 ∙ c.loop-ok-test.false))
+pub loop-row-preserved : goal.loop-row-preserved
+loop-row-preserved c =
+    let columns = c.args.form.columns in
+    let start : (c.loop-row.row + 1) * columns ≡ c.loop-row.row * columns + columns = omega arith in
+    rw start (ap (λ b. true && b) (sym c.if-not-row_passes.false)
+    ∙ rows_passing c.args.records.now c.args.form c.loop-row.row refl c.loop-row.invariant
+    (c.row_passes.ensures ∙ rw (c.from.ensures, c.from-columns.ensures)))

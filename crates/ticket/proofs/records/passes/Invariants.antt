@@ -1,12 +1,8 @@
--- The loop keeps whether the records of the rows before this one pass.
-use Rattle.std.proofs.Common.{◌≡◌, ◌-◌, ◌*◌, ◌≤◌}
+-- The loop keeps that the records of the rows before this one pass.
+use Rattle.std.proofs.Common.{◌≡◌, true, ◌*◌}
 use Rattle.ticket.specs.Laws.All.{all}
 use Rattle.ticket.specs.Laws.Passing.{passing}
 use Rattle.ticket.proofs.records.passes.Given as goal
 
-abbrev pub invariant-loop-ok : goal.invariant-loop-ok
-invariant-loop-ok l =
-    (l.row ≤ l.form.rows) × (l.start ≡ l.row * l.form.columns) × (l.ok ≡ all l.start (passing l.records l.form))
-
-abbrev pub decreases-loop-ok : goal.decreases-loop-ok
-decreases-loop-ok l = l.form.rows - l.row
+abbrev pub invariant-loop-row : goal.invariant-loop-row
+invariant-loop-row l = true ≡ all (l.row * l.form.columns) (passing l.records l.form)

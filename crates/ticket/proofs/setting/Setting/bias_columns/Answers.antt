@@ -5,5 +5,5 @@ use Rattle.ticket.proofs.setting.Setting.bias_columns.Goals as goal
 pub returns-then-self-gt0 : goal.returns-then-self-gt0
 returns-then-self-gt0 c = sym (with_bias_lem _ (bias_flag _ c.if-self-gt0.true)).1
 
-pub returns : goal.returns
-returns c = sym (without_bias _ (no_bias_flag _ (omega arith))).1
+pub returns-else-self-gt0 : goal.returns-else-self-gt0
+returns-else-self-gt0 c = sym (without_bias _ (no_bias_flag _ (omega arith))).1

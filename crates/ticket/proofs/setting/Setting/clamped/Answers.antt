@@ -5,5 +5,5 @@ use Rattle.ticket.proofs.setting.Setting.clamped.Goals as goal
 
 pub returns : goal.returns
 unfolding clamped
-returns c = rw (c.least.ensures, c.least-2.ensures, c.least-3.ensures, c.least-4.ensures, c.least-5.ensures)
+returns c = rw (c.min.ensures, c.min-2.ensures, c.min-3.ensures, c.min-4.ensures, c.min-5.ensures)
     (refl, clamped_small c.args.self)
