@@ -3,10 +3,10 @@
 #![tactic(auto)]
 
 ghost use Rattle.std.specs.Prelude.{◌≡◌};
-ghost use Rattle.ticket.specs.Rules.{after, refusal, setting_number};
+ghost use Rattle.ticket.specs.Rules.{after, answered, refusal, setting_number};
 ghost use Rattle.challenge.specs.Rules.{challenge_check, list_reading, row_check, testing};
 
-use ticket::{Answer, Setting};
+use ticket::{Answer, Refusal, Setting};
 
 mod lists;
 mod products;
@@ -26,9 +26,8 @@ const MOST: u32 = Setting::MOST_ROWS * (Setting::MOST_INNER + Setting::MOST_COLU
 pub fn check(setting: Setting, ticket: &[u8], list: &[u32]) -> Answer
     ensures { result ≡ challenge_check setting ticket.now list.now }
 {
-    let read = ticket::read(setting, ticket);
-    if read.number != 0 {
-        return read;
+    if let Err(refusal) = ticket::read(setting, ticket) {
+        return Answer::from(refusal);
     }
     if setting.rows * (setting.inner + setting.columns) <= FEW {
         let mut room = [0; FEW as usize];
@@ -38,30 +37,19 @@ pub fn check(setting: Setting, ticket: &[u8], list: &[u32]) -> Answer
     rows::check_decoded(setting, ticket, list, &mut room)
 }
 
-// The answer of the ordinary tests, those of setting, ticket and list; its number is 0 where all pass.
-pub fn read(setting: Setting, ticket: &[u8], list: &[u32]) -> Answer
-    ensures { result ≡ testing setting ticket.now list.now }
+// The ordinary tests, those of setting, ticket and list.
+pub fn read(setting: Setting, ticket: &[u8], list: &[u32]) -> Result<(), Refusal>
+    ensures { answered result ≡ testing setting ticket.now list.now }
 {
-    let tested = ticket::read(setting, ticket);
-    if tested.number != 0 {
-        return tested;
-    }
+    ticket::read(setting, ticket)?;
     lists::read_list(setting, list)
 }
 
 // The same without a ticket: the tests of setting and list.
-pub fn read_list(setting: Setting, list: &[u32]) -> Answer
-    ensures { result ≡ after (refusal (setting_number setting) 0) (list_reading setting list.now) }
+pub fn read_list(setting: Setting, list: &[u32]) -> Result<(), Refusal>
+    ensures { answered result ≡ after (refusal (setting_number setting) 0) (list_reading setting list.now) }
 {
-    let number = setting.number_of(setting.half());
-    if number != 0 {
-        return Answer {
-            number,
-            place: 0,
-            row: 0,
-            products: 0,
-        };
-    }
+    setting.test(setting.half())?;
     lists::read_list(setting, list)
 }
 
@@ -77,15 +65,11 @@ pub fn check_one_row(
 ) -> RowAnswer
     ensures { result ≡ row_check setting ticket.now list.now t row u }
 {
-    let tested = read(setting, ticket, list);
-    if tested.number != 0 {
-        return single::no_row(tested, u);
+    if let Err(refusal) = read(setting, ticket, list) {
+        return single::no_row(Answer::from(refusal), u);
     }
-    if setting.vectors <= t {
-        return single::no_row(tested, u);
-    }
-    if setting.rows <= row {
-        return single::no_row(tested, u);
+    if setting.vectors <= t || setting.rows <= row {
+        return single::no_row(Answer::PASSED, u);
     }
     single::row_of(setting, ticket, list, t, row, u)
 }

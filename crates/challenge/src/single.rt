@@ -7,8 +7,8 @@ ghost use Rattle.challenge.specs.Laws.Sides.{RoomFor, RowDecoded};
 ghost use Rattle.challenge.specs.Laws.Single.{DecodeRowReady, LineReady, RowReady};
 
 use crate::lists::line;
-use crate::products::{WORD, offset, product, widen};
-use crate::rows::{COLUMNS, INNER, check_row};
+use crate::products::{WORD, product, widen};
+use crate::rows::{COLUMNS, INNER, Vector};
 use residue::Residue;
 use ticket::{Answer, PartNumber, RECORD, Setting};
 
@@ -118,10 +118,8 @@ fn line_balanced(setting: Setting, ticket: &[u8], x: &[u64], u: &[u64], row: u32
     let half = setting.half();
     decode_row(setting, ticket, half, row, &mut a, &mut w);
     let bias = ticket::part(setting, ticket, PartNumber::BIAS);
-    let width = setting.bias_columns() as usize;
-    let left = offset(x, setting.lift_of(half));
-    let right = offset(u, setting.bound as u64);
-    check_row(&a, &w, bias, x, &x[..width], u, left, right, 0, row, 0).number == 0
+    let vector = Vector::new(setting, bias, x, u, setting.lift_of(half), 0);
+    vector.check_row(&a, &w, row, 0).is_ok()
 }
 
 // A row of A and of the claims, decoded, to the beginnings of lists.
@@ -138,14 +136,14 @@ fn decode_row(
 {
     let inner = RECORD * (setting.inner as usize);
     let columns = RECORD * (setting.columns as usize);
-    let entries = records(ticket::part(setting, ticket, PartNumber::A), inner, row);
+    let entries = line(ticket::part(setting, ticket, PartNumber::A), inner, row);
     ticket::shifted_entries(entries, Residue(setting.bound), a);
-    let quotients = records(
+    let quotients = line(
         ticket::part(setting, ticket, PartNumber::QUOTIENTS),
         columns,
         row,
     );
-    let remainders = records(
+    let remainders = line(
         ticket::part(setting, ticket, PartNumber::REMAINDERS),
         columns,
         row,
@@ -153,23 +151,12 @@ fn decode_row(
     ticket::lifted_claims(quotients, remainders, half, setting.scale, w);
 }
 
-// Line number k of bytes, which stand line after line, each of the given size.
-fn records(bytes: &[u8], size: usize, k: u32) -> &[u8]
-    requires { k * size + size ≤ length bytes.now }
-    ensures { result.now ≡ line_at bytes.now size k }
-{
-    let start = (k as usize) * size;
-    &bytes[start..start + size]
-}
-
 // Numbers in 32 bits, to the beginning of a list.
 fn narrow(wide: &[u64], list: &mut [u32])
     requires { length wide.now ≤ length list.old }
     ensures { Filled 0 list.old (length wide.now) (λ k. get_or wide.now k 0 % 2 ^ 32) list.new }
 {
-    let mut k = 0;
-    while k < wide.len() {
-        list[k] = (wide[k] % WORD) as u32;
-        k += 1;
+    for (k, number) in wide.iter().enumerate() {
+        list[k] = (*number % WORD) as u32;
     }
 }
