@@ -13,7 +13,7 @@ pub(crate) const NUMBERS: usize = LONGEST_CHALLENGE / NUMBER;
 pub(crate) fn setting_of(bytes: &[u8]) -> Setting
     ensures { result ≡ setting_of bytes.now }
 {
-    PlainSetting {
+    Setting::from(PlainSetting {
         rows: u32::from(byte_at(bytes, 0)),
         inner: u32::from(byte_at(bytes, 1)),
         columns: u32::from(byte_at(bytes, 2)),
@@ -22,8 +22,7 @@ pub(crate) fn setting_of(bytes: &[u8]) -> Setting
         bound: word_at(bytes, 8),
         width: word_at(bytes, 12),
         rounding: word_at(bytes, 16),
-    }
-    .plain()
+    })
 }
 
 // The list in a challenge file, put into the room lent. A file holds none whose bytes are no whole number of numbers, or more than any list has.

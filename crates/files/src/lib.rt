@@ -6,7 +6,7 @@ ghost use Rattle.std.specs.Prelude.{◌≡◌};
 ghost use Rattle.files.specs.Rules.{file_check};
 
 use bytes::{NUMBERS, list_of, setting_of};
-use ticket::{Answer, Setting};
+use ticket::{Answer, Reason, Refusal, Setting};
 
 mod bytes;
 mod text;
@@ -28,12 +28,7 @@ pub fn check(setting: &[u8], ticket: &[u8], challenge: &[u8]) -> Answer
     ensures { result ≡ file_check setting.now ticket.now challenge.now }
 {
     if setting.len() != SETTING_BYTES {
-        return Answer {
-            number: 1,
-            place: 0,
-            row: 0,
-            products: 0,
-        };
+        return Answer::from(Refusal::from(Reason::Sizes));
     }
     let parameters = setting_of(setting);
     let mut room = [0; NUMBERS];

@@ -1,12 +1,13 @@
 // Whether a run is finished, how it goes on, and what is said of it.
 ghost use Rattle.std.specs.Prelude.{◌≡◌};
 ghost use Rattle.ticket.specs.Rules.{answer, plain};
-ghost use Rattle.run.specs.Rules.{is_caught, is_finished, is_past, marked, products_done, standing, tested};
-ghost use Rattle.run.specs.Laws.States.{Answerable, DoneReady, due, mark_of, proceeded};
+ghost use Rattle.ticket.specs.Laws.Limits.{Sizes};
+ghost use Rattle.run.specs.Rules.{is_caught, is_finished, is_past, layer, marked, products_done, refused, standing};
+ghost use Rattle.run.specs.Laws.States.{DoneReady, due, mark_of, proceeded};
 
 use crate::{Run, RunAnswer};
 use challenge::RowAnswer;
-use ticket::{Answer, PlainSetting};
+use ticket::{Answer, PlainSetting, Reason};
 
 // How a run stands, or that a call refused.
 #[derive(Clone, Copy)]
@@ -60,30 +61,44 @@ impl Run {
         self.vector
     }
 
-    // The state after a row, where one was due and the tests passed: caught, or on to the next row, after the last to the first of the next vector.
+    // The state after a row, where one was due: with its u, and caught, or on to the next row, after the last to the first of the next vector.
     pub(crate) fn proceeded(mut self, made: RowAnswer) -> Run
         ensures { result ≡ proceeded self made }
     {
-        if made.tested.number == 0 && !self.is_finished() {
-            if made.balanced {
-                self.row += 1;
-                if self.setting.rows <= self.row {
-                    self.row = 0;
-                    self.vector += 1;
-                }
-            } else {
-                self.caught = 1;
+        if self.is_finished() {
+            return self;
+        }
+        let u = made.u;
+        self.u = u;
+        if made.balanced {
+            self.row += 1;
+            if self.setting.rows <= self.row {
+                self.row = 0;
+                self.vector += 1;
             }
+        } else {
+            self.caught = 1;
         }
         self
     }
 
-    // The answer of a state after tests: their refusal, or that of the state by itself. The state is put into it in one place, for speed.
-    pub(crate) fn answered(self, read: Answer) -> RunAnswer
-        requires { Answerable self read }
-        ensures { result ≡ tested self read (standing self) }
+    // The answer of a refusal, with the state as it is.
+    pub(crate) fn refused(self, answer: Answer) -> RunAnswer
+        ensures { result ≡ marked self refused answer }
     {
-        let (standing, answer) = self.told(read);
+        RunAnswer {
+            run: self,
+            mark: Standing::Refused.into(),
+            answer,
+        }
+    }
+
+    // The answer of a state by itself. The state is put into it in one place, for speed.
+    pub(crate) fn answered(self) -> RunAnswer
+        requires { Sizes (layer self) }
+        ensures { result ≡ standing self }
+    {
+        let (standing, answer) = self.told();
         RunAnswer {
             run: self,
             mark: standing.into(),
@@ -91,13 +106,10 @@ impl Run {
         }
     }
 
-    fn told(self, read: Answer) -> (Standing, Answer)
-        requires { Answerable self read }
-        ensures { marked self (mark_of result.0) result.1 ≡ tested self read (standing self) }
+    fn told(self) -> (Standing, Answer)
+        requires { Sizes (layer self) }
+        ensures { marked self (mark_of result.0) result.1 ≡ standing self }
     {
-        if read.number != 0 {
-            return (Standing::Refused, read);
-        }
         let setting = self.setting;
         if self.is_past() {
             let products = products_done(setting, setting.vectors, 0);
@@ -109,7 +121,10 @@ impl Run {
         }
         if self.is_caught() {
             let products = products_done(setting, self.vector, self.row + 1);
-            return (Standing::Caught, self.here(12, products));
+            return (
+                Standing::Caught,
+                self.here(Reason::Caught.number(), products),
+            );
         }
         let products = products_done(setting, self.vector, self.row);
         (Standing::UnderWay, self.here(0, products))

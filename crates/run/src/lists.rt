@@ -1,6 +1,6 @@
 // The lists of states: made, read and lengthened.
 ghost use Rattle.std.specs.Prelude.{◌≡◌, cond, ◌+◌, ◌≤◌, leb, length, take};
-ghost use Rattle.ticket.specs.Rules.{refusal, setting_number};
+ghost use Rattle.ticket.specs.Rules.{answered, setting_number};
 ghost use Rattle.ticket.specs.Laws.Vectors.{vectored};
 ghost use Rattle.challenge.specs.Rules.{list_reading};
 ghost use Rattle.challenge.specs.Laws.Lengthened.{placed_after};
@@ -8,7 +8,7 @@ ghost use Rattle.run.specs.Rules.{addition_reading, begun, lengthened, most_numb
 ghost use Rattle.run.specs.Laws.Additions.{Additional};
 
 use crate::{INNER, NUMBERS, Run};
-use ticket::{Answer, PlainSetting, Setting};
+use ticket::{PlainSetting, Reason, Refusal, Setting};
 
 // The state of zeros.
 pub(crate) fn zeros() -> Run
@@ -57,24 +57,18 @@ pub(crate) fn held(list: &[u32], count: u32) -> &[u32]
 }
 
 impl Run {
-    // The answer of the tests of an addition.
-    pub(crate) fn read_addition(self, vector: &[u32]) -> Answer
-        ensures { result ≡ addition_reading self vector.now }
+    // The tests of an addition.
+    pub(crate) fn read_addition(self, vector: &[u32]) -> Result<(), Refusal>
+        ensures { answered result ≡ addition_reading self vector.now }
     {
-        let setting = self.setting.plain();
+        let setting = Setting::from(self.setting);
         let list = self.list;
-        let listed = challenge::read_list(setting, held(&list, self.length));
-        if listed.number != 0 {
-            return listed;
+        challenge::read_list(setting, held(&list, self.length))?;
+        read_vector(setting, vector)?;
+        if self.is_finished() || Setting::MOST_VECTORS <= self.setting.vectors {
+            return Err(Refusal::from(Reason::Addition));
         }
-        let tested = read_vector(setting, vector);
-        if tested.number != 0 {
-            return tested;
-        }
-        if self.is_finished() | (Setting::MOST_VECTORS <= self.setting.vectors) {
-            return refusal(22, 0);
-        }
-        Answer::PASSED
+        Ok(())
     }
 
     // The state with a vector at the end of its list.
@@ -90,30 +84,23 @@ impl Run {
     }
 }
 
-// The answer of the tests of a vector after a list: those of a list of one vector, with places counted on.
-fn read_vector(setting: Setting, vector: &[u32]) -> Answer
+// The tests of a vector after a list: those of a list of one vector, with places counted on.
+fn read_vector(setting: Setting, vector: &[u32]) -> Result<(), Refusal>
     requires { setting_number setting ≡ 0 }
-    ensures { result ≡ placed_after setting (list_reading (vectored setting 1) vector.now) }
+    ensures { answered result ≡ placed_after setting (list_reading (vectored setting 1) vector.now) }
 {
-    let tested = challenge::read_list(setting.with_vectors(1), vector);
-    if tested.number == 11 {
-        return refusal(11, setting.vectors * setting.columns + tested.place);
-    }
-    if tested.number == 21 {
-        return refusal(21, setting.vectors + tested.place);
-    }
-    tested
-}
-
-fn refusal(number: u32, place: u32) -> Answer
-    ensures { result ≡ refusal number place }
-{
-    Answer {
-        number,
-        place,
-        row: 0,
-        products: 0,
-    }
+    let Err(refusal) = challenge::read_list(setting.with_vectors(1), vector) else {
+        return Ok(());
+    };
+    let before = match refusal.reason {
+        Reason::ListNumber => setting.vectors * setting.columns,
+        Reason::ZeroVector => setting.vectors,
+        _ => 0,
+    };
+    Err(Refusal {
+        place: before + refusal.place,
+        ..refusal
+    })
 }
 
 // Numbers to a list, from a place on.

@@ -9,10 +9,10 @@
 --   Additional R v, addition_passed   what an addition that passes gives
 --   addition_sizes, vectors_few, unfinished_open, lengthened_sizes   the sizes, without the vector and with it; that the run is not finished
 --   held_long, vector_long, addition_fits   how long the lists are, and that there is room
-use Rattle.std.specs.Prelude.{ℕ, zero, suc, ◌+◌, ◌-◌, ◌*◌, ◌≤◌, ◌<◌, ◌≡◌, refl, Bool, true, false, cond, not, ◌&&◌, ◌||◌, leb, ltb, drop, replicate}
+use Rattle.std.specs.Prelude.{◌⊎◌, ℕ, zero, suc, ◌+◌, ◌-◌, ◌*◌, ◌≤◌, ◌<◌, ◌≡◌, refl, Bool, true, false, cond, not, leb, ltb, drop, replicate}
 use Rattle.std.proofs.Math.Decide.{dec_le}
 use Rattle.std.proofs.Math.Nat.{mul-le-mul}
-use Rattle.std.proofs.Common.{arith, ◌∙◌, eq-eqb, ne_eqb, le-leb, lt-ltb, le-ltb, ltb-true, length-append, length-take-le}
+use Rattle.std.proofs.Common.{arith, ◌∙◌, ⊎_elim, eq-eqb, ne_eqb, le-leb, lt-ltb, le-ltb, ltb-true, length-append, length-take-le}
 use Rattle.std.proofs.Math.Path.{sym, ap}
 use Rattle.std.proofs.lemmas.Bool.{false≢true, lt-leb}
 use mathlib.Core.List.{List, [], ◌++◌}
@@ -36,6 +36,7 @@ use Rattle.challenge.proofs.Laws.Lists.{well_formed_is, list_place}
 use Rattle.run.specs.declared.Run.{Run}
 use Rattle.run.specs.Rules.{layer, most_numbers, held_list, is_finished, zeros, begun, one_more, lengthened, is_open, addition_reading, overwritten}
 use Rattle.run.specs.Laws.Additions.{Additional}
+use Rattle.run.specs.Laws.States.{due}
 
 module _ (R : Run) (long : length R.list ≡ most_numbers) {G : Setting} (G-is : G ≡ layer R) {x : List ℕ}
     (x-is : x ≡ take (cond (leb R.length (length R.list)) R.length 0) R.list) where
@@ -43,8 +44,9 @@ module _ (R : Run) (long : length R.list ≡ most_numbers) {G : Setting} (G-is :
   unfolding held_list
   held_is = x-is ∙ rw long
 
-  pub row_held : (t : List ℕ) (τ i : ℕ) (u : List ℕ) {r : RowAnswer} → r ≡ row_check G t x τ i u → r ≡ row_check (layer R) t (held_list R) τ i u
-  row_held t τ i u r-is = r-is ∙ rw (G-is, held_is)
+  pub row_held : {τ : ℕ} → τ ≡ due R → (t : List ℕ) {r : RowAnswer} → r ≡ row_check G t x τ R.row R.u
+      → r ≡ row_check (layer R) t (held_list R) (due R) R.row R.u
+  row_held τ-is t r-is = r-is ∙ rw (G-is, held_is, τ-is)
 
   pub reading_held : {a : Answer} → a ≡ after (refusal (setting_number G) 0) (list_reading G x)
       → a ≡ after (refusal (setting_number (layer R)) 0) (list_reading (layer R) (held_list R))
@@ -133,23 +135,12 @@ module _ (R : Run) (v : List ℕ) {a : Answer}
 
 -- whether a vector may be added
 
-open_test : (f : Bool) (s : ℕ) → (not f && ltb s most_vectors) ≡ not (f || leb most_vectors s)
-open_test true s = refl
-open_test false s =
-    elim (dec_le most_vectors s) [
-      | yes l ↦ rw (le-leb most_vectors s l) (le-ltb s most_vectors l)
-      | no l ↦ rw (lt-leb most_vectors s (omega arith)) (lt-ltb s most_vectors (omega arith))
-    ]
-
 module _ (R : Run) {f : Bool} (f-is : f ≡ is_finished R) where
-  open_is : {b : Bool} → (f || leb most_vectors R.setting.vectors) ≡ b → is_open R ≡ not b
-  open_is e = open_test (is_finished R) R.setting.vectors ∙ ap not ((rw f-is at e))
+  pub closed : (f ≡ true) ⊎ ((f ≡ false) × (most_vectors ≤ R.setting.vectors)) → refusal 22 0 ≡ unless (is_open R) (refusal 22 0) (refusal 0 0)
+  closed = ⊎_elim (λ e. rw (← f-is, e)) (λ h. rw (← f-is, h.0, le-ltb R.setting.vectors most_vectors h.1))
 
-  pub closed : (f || leb most_vectors R.setting.vectors) ≡ true → refusal 22 0 ≡ unless (is_open R) (refusal 22 0) (refusal 0 0)
-  closed e = sym (rw (open_is e))
-
-  pub opened : (f || leb most_vectors R.setting.vectors) ≡ false → refusal 0 0 ≡ unless (is_open R) (refusal 22 0) (refusal 0 0)
-  opened e = sym (rw (open_is e))
+  pub opened : f ≡ false → R.setting.vectors < most_vectors → refusal 0 0 ≡ unless (is_open R) (refusal 22 0) (refusal 0 0)
+  opened e l = rw (← f-is, e, lt-ltb R.setting.vectors most_vectors l)
 
 -- what an addition that passes gives
 
