@@ -28,7 +28,7 @@ pub fn check(setting: &[u8], ticket: &[u8], challenge: &[u8]) -> Answer
     ensures { result ≡ file_check setting.now ticket.now challenge.now }
 {
     if setting.len() != SETTING_BYTES {
-        return Answer::from(Refusal::from(Reason::Sizes));
+        return Refusal::from(Reason::Sizes).into();
     }
     let parameters = setting_of(setting);
     let mut room = [0; NUMBERS];

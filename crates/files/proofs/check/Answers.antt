@@ -2,7 +2,7 @@ use Rattle.files.proofs.Laws.Checks.{setting_file_refused, list_checked, none_ch
 use Rattle.files.proofs.check.Goals as goal
 
 pub returns-then-setting-ne-SETTING_BYTES : goal.returns-then-setting-ne-SETTING_BYTES
-returns-then-setting-ne-SETTING_BYTES c = search setting_file_refused
+returns-then-setting-ne-SETTING_BYTES c = rw (c.into.ensures, c.from.ensures) (search setting_file_refused)
 
 pub returns-in-Some : goal.returns-in-Some
 returns-in-Some c = cc (list_checked _ _ _ c.if-setting-ne-SETTING_BYTES.false _ c.in-Some.ensures)
