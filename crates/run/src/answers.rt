@@ -106,6 +106,7 @@ impl Run {
         }
     }
 
+    // How a state stands, and its answer's numbers.
     fn told(self) -> (Standing, Answer)
         requires { Sizes (layer self) }
         ensures { marked self (mark_of result.0) result.1 ≡ standing self }

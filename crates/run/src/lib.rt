@@ -67,15 +67,13 @@ impl Run {
     pub fn step(self, ticket: &[u8]) -> RunAnswer
         ensures { result ≡ stepping self ticket.now }
     {
-        let list = self.list;
-        let before = self.u;
         let made = challenge::check_one_row(
             Setting::from(self.setting),
             ticket,
-            lists::held(&list, self.length),
+            lists::held(&self.list, self.length),
             self.due(),
             self.row,
-            before,
+            self.u,
         );
         if made.tested.number != 0 {
             return self.refused(made.tested);

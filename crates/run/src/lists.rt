@@ -62,8 +62,7 @@ impl Run {
         ensures { answered result ≡ addition_reading self vector.now }
     {
         let setting = Setting::from(self.setting);
-        let list = self.list;
-        challenge::read_list(setting, held(&list, self.length))?;
+        challenge::read_list(setting, held(&self.list, self.length))?;
         read_vector(setting, vector)?;
         if self.is_finished() || Setting::MOST_VECTORS <= self.setting.vectors {
             return Err(Refusal::from(Reason::Addition));
