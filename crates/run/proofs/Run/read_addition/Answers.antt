@@ -28,8 +28,9 @@ returns-in_err-read_vector c =
 pub returns-then-is_finished : goal.returns-then-is_finished
 returns-then-is_finished c =
     let listed = reading_held c.args.self (search rules) c.from-setting.ensures c.held.ensures c.in_ok-read_list.ensures in
-    let vector = vector_plain c.from-setting.ensures _ c.in_ok-read_vector.ensures in
-    rw c.from.ensures (addition_last _ _ listed refl vector refl (closed _ c.is_finished.ensures c.then-is_finished.either))
+    rw c.from.ensures
+    (addition_last _ _ listed refl (vector_plain c.from-setting.ensures _ c.in_ok-read_vector.ensures) refl
+    (closed _ c.is_finished.ensures c.then-is_finished.either))
 
 pub returns : goal.returns
 returns c =
