@@ -3,10 +3,10 @@
 #![tactic(auto)]
 
 ghost use Rattle.std.specs.Prelude.{◌≡◌};
-ghost use Rattle.ticket.specs.Rules.{after, refusal, setting_number};
+ghost use Rattle.ticket.specs.Rules.{after, answered, refusal, setting_number};
 ghost use Rattle.challenge.specs.Rules.{challenge_check, list_reading, row_check, testing};
 
-use ticket::{Answer, Setting};
+use ticket::{Answer, Refusal, Setting};
 
 mod lists;
 mod products;
@@ -14,6 +14,14 @@ mod rows;
 mod single;
 
 pub use single::RowAnswer;
+
+// What a check is of: a ticket, with the setting that it is for, and a challenge list.
+#[derive(Clone, Copy)]
+struct Case<'a> {
+    setting: Setting,
+    ticket: &'a [u8],
+    list: &'a [u32],
+}
 
 // So many entries of A and claims, together, are few.
 const FEW: u32 = 128;
@@ -26,42 +34,35 @@ const MOST: u32 = Setting::MOST_ROWS * (Setting::MOST_INNER + Setting::MOST_COLU
 pub fn check(setting: Setting, ticket: &[u8], list: &[u32]) -> Answer
     ensures { result ≡ challenge_check setting ticket.now list.now }
 {
-    let read = ticket::read(setting, ticket);
-    if read.number != 0 {
-        return read;
+    if let Err(refusal) = ticket::read(setting, ticket) {
+        return Answer::from(refusal);
     }
+    let case = Case {
+        setting,
+        ticket,
+        list,
+    };
     if setting.rows * (setting.inner + setting.columns) <= FEW {
         let mut room = [0; FEW as usize];
-        return rows::check_decoded(setting, ticket, list, &mut room);
+        return rows::check_decoded(case, &mut room);
     }
     let mut room = [0; MOST as usize];
-    rows::check_decoded(setting, ticket, list, &mut room)
+    rows::check_decoded(case, &mut room)
 }
 
-// The answer of the ordinary tests, those of setting, ticket and list; its number is 0 where all pass.
-pub fn read(setting: Setting, ticket: &[u8], list: &[u32]) -> Answer
-    ensures { result ≡ testing setting ticket.now list.now }
+// The ordinary tests, those of setting, ticket and list.
+pub fn read(setting: Setting, ticket: &[u8], list: &[u32]) -> Result<(), Refusal>
+    ensures { answered result ≡ testing setting ticket.now list.now }
 {
-    let tested = ticket::read(setting, ticket);
-    if tested.number != 0 {
-        return tested;
-    }
+    ticket::read(setting, ticket)?;
     lists::read_list(setting, list)
 }
 
 // The same without a ticket: the tests of setting and list.
-pub fn read_list(setting: Setting, list: &[u32]) -> Answer
-    ensures { result ≡ after (refusal (setting_number setting) 0) (list_reading setting list.now) }
+pub fn read_list(setting: Setting, list: &[u32]) -> Result<(), Refusal>
+    ensures { answered result ≡ after (refusal (setting_number setting) 0) (list_reading setting list.now) }
 {
-    let number = setting.number_of(setting.half());
-    if number != 0 {
-        return Answer {
-            number,
-            place: 0,
-            row: 0,
-            products: 0,
-        };
-    }
+    setting.test(setting.half())?;
     lists::read_list(setting, list)
 }
 
@@ -77,15 +78,16 @@ pub fn check_one_row(
 ) -> RowAnswer
     ensures { result ≡ row_check setting ticket.now list.now t row u }
 {
-    let tested = read(setting, ticket, list);
-    if tested.number != 0 {
-        return single::no_row(tested, u);
+    if let Err(refusal) = read(setting, ticket, list) {
+        return single::no_row(Answer::from(refusal), u);
     }
-    if setting.vectors <= t {
-        return single::no_row(tested, u);
+    if setting.vectors <= t || setting.rows <= row {
+        return single::no_row(Answer::PASSED, u);
     }
-    if setting.rows <= row {
-        return single::no_row(tested, u);
-    }
-    single::row_of(setting, ticket, list, t, row, u)
+    let case = Case {
+        setting,
+        ticket,
+        list,
+    };
+    single::row_of(case, t, row, u)
 }

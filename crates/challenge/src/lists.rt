@@ -1,37 +1,30 @@
 // The challenge list: tests 10, 11 and 21.
 ghost use Rattle.std.specs.Prelude.{◌≡◌, ◌+◌, ◌*◌, ◌^◌, ◌≤◌, ◌<◌, eqb, length, get_or};
+ghost use Rattle.std.specs.List.{list_all};
 ghost use Rattle.algebra.specs.Laws.Fills.{line_at};
-ghost use Rattle.ticket.specs.Rules.{first, first_refusal};
+ghost use Rattle.ticket.specs.Rules.{answered, first_refusal};
 ghost use Rattle.ticket.specs.Laws.All.{all};
 ghost use Rattle.ticket.specs.Laws.Limits.{Counts};
 ghost use Rattle.challenge.specs.Rules.{list_number, vector_number, list_reading};
 ghost use Rattle.challenge.specs.Laws.Lists.{nonzero_residue};
 
 use residue::Residue;
-use ticket::{Answer, Setting};
+use ticket::{Reason, Refusal, Setting};
 
-// The answer of the tests 10, 11 and 21; its number is 0 where the list is well formed. Numbers from 1 to p - 1 pass 11 and 21, and hardly
-// any list has others, so these two are made one after the other only where there are.
-pub(crate) fn read_list(setting: Setting, list: &[u32]) -> Answer
+// The tests 10, 11 and 21. Numbers from 1 to p - 1 pass 11 and 21, and hardly any list has others, so these two are made one after the
+// other only where there are.
+pub(crate) fn read_list(setting: Setting, list: &[u32]) -> Result<(), Refusal>
     requires { Counts setting }
-    ensures { result ≡ list_reading setting list.now }
+    ensures { answered result ≡ list_reading setting list.now }
 {
     let count = setting.vectors * setting.columns;
     if list.len() != count as usize {
-        return Answer {
-            number: 10,
-            place: 0,
-            row: 0,
-            products: 0,
-        };
+        return Err(Refusal::from(Reason::ListLength));
     }
     if nonzero_residues(list) {
-        return Answer::PASSED;
+        return Ok(());
     }
-    let numbers = read_numbers(list);
-    if numbers.number != 0 {
-        return numbers;
-    }
+    read_numbers(list)?;
     read_vectors(setting, list)
 }
 
@@ -41,69 +34,54 @@ fn nonzero_residues(list: &[u32]) -> bool
 {
     let most = Residue::modulus() - 1;
     let mut all = true;
-    let mut k = 0;
-    while k < list.len() {
-        let number = list[k];
-        all = all & ((1 <= number) & (number <= most));
-        k += 1;
+    for number in list {
+        all &= (1 <= *number) & (*number <= most);
     }
     all
 }
 
-// The answer of test 11: refused at the first number that is not a least residue.
-fn read_numbers(list: &[u32]) -> Answer
+// Test 11: refused at the first number that is not a least residue.
+fn read_numbers(list: &[u32]) -> Result<(), Refusal>
     requires { length list.now < 2 ^ 32 }
-    ensures { result ≡ first_refusal 0 (length list.now) (list_number list.now) }
+    ensures { answered result ≡ first_refusal 0 (length list.now) (list_number list.now) }
 {
-    let mut k: u32 = 0;
-    while (k as usize) < list.len() {
-        if Residue::modulus() <= list[k as usize] {
-            return Answer {
-                number: 11,
-                place: k,
-                row: 0,
-                products: 0,
-            };
+    for (k, number) in list.iter().enumerate() {
+        if Residue::modulus() <= *number {
+            return Err(Refusal {
+                reason: Reason::ListNumber,
+                place: k as u32,
+            });
         }
-        k += 1;
     }
-    Answer::PASSED
+    Ok(())
 }
 
-// The answer of test 21: refused at the first vector of zeros.
-fn read_vectors(setting: Setting, list: &[u32]) -> Answer
+// Test 21: refused at the first vector of zeros.
+fn read_vectors(setting: Setting, list: &[u32]) -> Result<(), Refusal>
     requires { length list.now ≡ setting.vectors * setting.columns }
-    ensures { result ≡ first_refusal 0 setting.vectors (vector_number setting list.now) }
+    ensures { answered result ≡ first_refusal 0 setting.vectors (vector_number setting list.now) }
 {
     let columns = setting.columns as usize;
-    let mut t: u32 = 0;
-    while t < setting.vectors {
-        if first_nonzero(line(list, columns, t)) == columns {
-            return Answer {
-                number: 21,
+    for t in 0..setting.vectors {
+        if is_zero(line(list, columns, t)) {
+            return Err(Refusal {
+                reason: Reason::ZeroVector,
                 place: t,
-                row: 0,
-                products: 0,
-            };
+            });
         }
-        t += 1;
     }
-    Answer::PASSED
+    Ok(())
 }
 
-// The first number of a vector that is not 0, the number of all where there is none.
-fn first_nonzero(vector: &[u32]) -> usize
-    ensures { result ≡ first (length vector.now) (λ j. eqb (get_or vector.now j 0) 0) }
+// Whether every number of a vector is 0.
+fn is_zero(vector: &[u32]) -> bool
+    ensures { result ≡ list_all (λ x. eqb x 0) vector.now }
 {
-    let mut j = 0;
-    while j < vector.len() && vector[j] == 0 {
-        j += 1;
-    }
-    j
+    vector.iter().all(|number| *number == 0)
 }
 
 // Line number k of a list, which stands line after line, each of the given size.
-pub(crate) fn line(list: &[u32], size: usize, k: u32) -> &[u32]
+pub(crate) fn line<T>(list: &[T], size: usize, k: u32) -> &[T]
     requires { k * size + size ≤ length list.now }
     ensures { result.now ≡ line_at list.now size k }
 {

@@ -17,11 +17,9 @@ pub(crate) fn product(matrix: &[u8], vector: &[u64], u: &mut [u64])
     requires { ProductReady matrix.now (length u.old) vector.now }
     ensures { Filled 0 u.old (length u.old) (rows_times matrix.now vector.now) u.new }
 {
-    let mut k = 0;
-    while k < u.len() {
+    for (k, number) in u.iter_mut().enumerate() {
         let start = k * vector.len();
-        u[k] = dot_records(matrix, start, vector).0 as u64;
-        k += 1;
+        *number = u64::from(dot_records(matrix, start, vector).0);
     }
 }
 
@@ -31,12 +29,10 @@ pub(crate) fn dot_records(records: &[u8], start: usize, vector: &[u64]) -> Resid
     ensures { result.0 ≡ dot_of records.now start vector.now }
 {
     let mut sum = ProductSum::new();
-    let mut r = 0;
-    while r < vector.len() {
+    for (r, factor) in vector.iter().enumerate() {
         let at = RECORD * (start + r);
         let value = ticket::value(&records[at..at + RECORD]);
-        sum = sum.add((value.0 as u64) * (vector[r] % WORD));
-        r += 1;
+        sum = sum.add(u64::from(value.0) * (*factor % WORD));
     }
     sum.residue()
 }
@@ -47,10 +43,8 @@ pub(crate) fn dot(list: &[u32], vector: &[u64], offset: u64) -> Residue
     ensures { result.0 ≡ dot_with offset list.now vector.now }
 {
     let mut sum = offset;
-    let mut i = 0;
-    while i < vector.len() {
-        sum += (list[i] as u64) * (vector[i] % WORD);
-        i += 1;
+    for (i, factor) in vector.iter().enumerate() {
+        sum += u64::from(list[i]) * (*factor % WORD);
     }
     Residue::reduce(sum)
 }
@@ -61,10 +55,8 @@ pub(crate) fn wide_dot(list: &[u32], vector: &[u64], offset: u64) -> Residue
     ensures { result.0 ≡ dot_with offset list.now vector.now }
 {
     let mut sum = ProductSum::new();
-    let mut c = 0;
-    while c < vector.len() {
-        sum = sum.add((list[c] as u64) * (vector[c] % WORD));
-        c += 1;
+    for (c, factor) in vector.iter().enumerate() {
+        sum = sum.add(u64::from(list[c]) * (*factor % WORD));
     }
     sum.add(offset).residue()
 }
@@ -76,13 +68,11 @@ pub(crate) fn offset(vector: &[u64], shift: u64) -> u64
     ensures { result ≡ offset_of shift vector.now }
 {
     let mut sum: u64 = 0;
-    let mut j = 0;
-    while j < vector.len() {
-        sum += vector[j];
-        j += 1;
+    for number in vector {
+        sum += *number;
     }
-    let negative = (Residue::modulus() as u64) - shift;
-    negative * (Residue::reduce(sum).0 as u64)
+    let negative = u64::from(Residue::modulus()) - shift;
+    negative * u64::from(Residue::reduce(sum).0)
 }
 
 // A vector in 64-bit numbers, as its products take them, to a list.
@@ -90,9 +80,7 @@ pub(crate) fn widen(vector: &[u32], list: &mut [u64])
     requires { length vector.now ≤ length list.old }
     ensures { Widened vector.now list.old list.new }
 {
-    let mut j = 0;
-    while j < vector.len() {
-        list[j] = vector[j] as u64;
-        j += 1;
+    for (j, number) in vector.iter().enumerate() {
+        list[j] = u64::from(*number);
     }
 }

@@ -6,9 +6,10 @@ ghost use Rattle.challenge.specs.Laws.Products.{WordVector};
 ghost use Rattle.challenge.specs.Laws.Sides.{RoomFor, RowDecoded};
 ghost use Rattle.challenge.specs.Laws.Single.{DecodeRowReady, LineReady, RowReady};
 
+use crate::Case;
 use crate::lists::line;
-use crate::products::{WORD, offset, product, widen};
-use crate::rows::{COLUMNS, INNER, check_row};
+use crate::products::{WORD, product, widen};
+use crate::rows::{COLUMNS, INNER, Vector};
 use residue::Residue;
 use ticket::{Answer, PartNumber, RECORD, Setting};
 
@@ -33,48 +34,35 @@ pub(crate) fn no_row(tested: Answer, u: [u32; INNER]) -> RowAnswer
 }
 
 // A row of a ticket and a list that pass the tests, both row and vector being there.
-pub(crate) fn row_of(
-    setting: Setting,
-    ticket: &[u8],
-    list: &[u32],
-    t: u32,
-    row: u32,
-    u: [u32; INNER],
-) -> RowAnswer
-    requires { RowReady setting ticket.now list.now t row }
-    ensures { result ≡ row_made setting ticket.now list.now t row u }
+pub(crate) fn row_of(case: Case, t: u32, row: u32, u: [u32; INNER]) -> RowAnswer
+    requires { RowReady case.setting case.ticket.now case.list.now t row }
+    ensures { result ≡ row_made case.entry.setting case.entry.ticket.now case.entry.list.now t row u }
 {
-    let columns = setting.columns as usize;
-    let inner = setting.inner as usize;
+    let columns = case.setting.columns as usize;
+    let inner = case.setting.inner as usize;
     let mut x = [0; COLUMNS];
     let mut wide = [0; INNER];
-    row_in(
-        setting,
-        ticket,
-        list,
-        t,
-        row,
-        u,
-        &mut x[..columns],
-        &mut wide[..inner],
-    )
+    row_in(case, t, row, u, &mut x[..columns], &mut wide[..inner])
 }
 
 // The same; the lists x and wide are for the vector and for the numbers that the row takes for its product with B. These are not reduced
 // first: modulo p their products come to the same.
 fn row_in(
-    setting: Setting,
-    ticket: &[u8],
-    list: &[u32],
+    case: Case,
     t: u32,
     row: u32,
     u: [u32; INNER],
     x: &mut [u64],
     wide: &mut [u64],
 ) -> RowAnswer
-    requires { RowReady setting ticket.now list.now t row × RoomFor setting x.old wide.old }
-    ensures { result ≡ row_made setting ticket.now list.now t row u }
+    requires { RowReady case.setting case.ticket.now case.list.now t row × RoomFor case.setting x.old wide.old }
+    ensures { result ≡ row_made case.entry.setting case.entry.ticket.now case.entry.list.now t row u }
 {
+    let Case {
+        setting,
+        ticket,
+        list,
+    } = case;
     widen(line(list, x.len(), t), x);
     let made = product_at(setting, ticket, x, wide, row, u);
     let inner = wide.len();
@@ -118,10 +106,8 @@ fn line_balanced(setting: Setting, ticket: &[u8], x: &[u64], u: &[u64], row: u32
     let half = setting.half();
     decode_row(setting, ticket, half, row, &mut a, &mut w);
     let bias = ticket::part(setting, ticket, PartNumber::BIAS);
-    let width = setting.bias_columns() as usize;
-    let left = offset(x, setting.lift_of(half));
-    let right = offset(u, setting.bound as u64);
-    check_row(&a, &w, bias, x, &x[..width], u, left, right, 0, row, 0).number == 0
+    let vector = Vector::new(setting, bias, x, u, setting.lift_of(half), 0);
+    vector.check_row(&a, &w, row, 0).is_ok()
 }
 
 // A row of A and of the claims, decoded, to the beginnings of lists.
@@ -138,14 +124,14 @@ fn decode_row(
 {
     let inner = RECORD * (setting.inner as usize);
     let columns = RECORD * (setting.columns as usize);
-    let entries = records(ticket::part(setting, ticket, PartNumber::A), inner, row);
+    let entries = line(ticket::part(setting, ticket, PartNumber::A), inner, row);
     ticket::shifted_entries(entries, Residue(setting.bound), a);
-    let quotients = records(
+    let quotients = line(
         ticket::part(setting, ticket, PartNumber::QUOTIENTS),
         columns,
         row,
     );
-    let remainders = records(
+    let remainders = line(
         ticket::part(setting, ticket, PartNumber::REMAINDERS),
         columns,
         row,
@@ -153,23 +139,12 @@ fn decode_row(
     ticket::lifted_claims(quotients, remainders, half, setting.scale, w);
 }
 
-// Line number k of bytes, which stand line after line, each of the given size.
-fn records(bytes: &[u8], size: usize, k: u32) -> &[u8]
-    requires { k * size + size ≤ length bytes.now }
-    ensures { result.now ≡ line_at bytes.now size k }
-{
-    let start = (k as usize) * size;
-    &bytes[start..start + size]
-}
-
 // Numbers in 32 bits, to the beginning of a list.
 fn narrow(wide: &[u64], list: &mut [u32])
     requires { length wide.now ≤ length list.old }
     ensures { Filled 0 list.old (length wide.now) (λ k. get_or wide.now k 0 % 2 ^ 32) list.new }
 {
-    let mut k = 0;
-    while k < wide.len() {
-        list[k] = (wide[k] % WORD) as u32;
-        k += 1;
+    for (k, number) in wide.iter().enumerate() {
+        list[k] = (*number % WORD) as u32;
     }
 }

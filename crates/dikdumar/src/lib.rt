@@ -24,7 +24,7 @@ pub extern "C" fn dikdumar_challenge_check(
 ) -> Answer
     ensures { result ≡ challenge_check (plain setting) ticket.now list.now }
 {
-    challenge::check(setting.plain(), ticket, list)
+    challenge::check(setting.into(), ticket, list)
 }
 
 #[unsafe(no_mangle)]
@@ -55,7 +55,7 @@ pub extern "C" fn dikdumar_bias_challenge_check(
 ) -> Answer
     ensures { result ≡ challenge_check (with_bias setting.setting setting.bias) ticket.now list.now }
 {
-    challenge::check(setting.biased(), ticket, list)
+    challenge::check(setting.into(), ticket, list)
 }
 
 #[unsafe(no_mangle)]
@@ -85,14 +85,14 @@ pub extern "C" fn dikdumar_write_bias_ticket(
 pub extern "C" fn dikdumar_quote_ticket(setting: PlainSetting) -> Quote
     ensures { result ≡ quote_of (plain setting) }
 {
-    quote::quote_of(setting.plain())
+    quote::quote_of(setting.into())
 }
 
 #[unsafe(no_mangle)]
 pub extern "C" fn dikdumar_quote_bias_ticket(setting: BiasSetting) -> Quote
     ensures { result ≡ quote_of (with_bias setting.setting setting.bias) }
 {
-    quote::quote_of(setting.biased())
+    quote::quote_of(setting.into())
 }
 
 #[unsafe(no_mangle)]

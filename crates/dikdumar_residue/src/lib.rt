@@ -11,7 +11,7 @@ use residue::{Entry, Residue};
 pub extern "C" fn dikdumar_reduce(x: u32) -> u32
     ensures { result ≡ least_residue modulus (pos x) }
 {
-    Residue::reduce(x as u64).0
+    Residue::reduce(u64::from(x)).0
 }
 
 #[unsafe(no_mangle)]

@@ -2,7 +2,7 @@
 // compiler turns into vector instructions.
 #![tactic(auto)]
 
-ghost use Rattle.std.specs.Prelude.{◌≡◌, ◌+◌, ◌^◌, ◌≤◌, min, length};
+ghost use Rattle.std.specs.Prelude.{◌≡◌, ◌+◌, ◌^◌, ◌≤◌, ◌*ℤ◌, length};
 ghost use Rattle.residue.specs.Rules.{least_residue};
 ghost use Rattle.exact.specs.Rules.{dot_product};
 ghost use Rattle.exact.specs.Laws.Products.{Summed};
@@ -11,11 +11,8 @@ mod matrices;
 
 pub use matrices::{row_sums, turn};
 
-// 2^32
-const WORD: u64 = 4_294_967_296;
-
 // Products are added up in blocks of two rows of 32, what is left in halves and a quarter of a row: loops of fixed lengths, which a
-// compiler lays out flat and makes many at a time.
+// compiler lays out flat and makes many at a time. Lists of less than half a row go to what is last at once, which is quicker.
 const ROW: usize = 32;
 
 const BLOCK: usize = 2 * ROW;
@@ -25,48 +22,60 @@ const HALF: usize = ROW / 2;
 const QUARTER: usize = ROW / 4;
 
 // The sum of the products of two lists, number by number, up to the end of the shorter one, modulo 2^32.
+#[tactic(auto, using(crate::proofs::Laws::Products::summed_all))]
 pub fn dot(x: &[i16], y: &[i16]) -> u32
     ensures { result ≡ dot_product x.now y.now }
 {
-    let count = shorter(x.len(), y.len());
-    let mut sum: u32 = 0;
-    let mut k = 0;
-    while BLOCK <= count - k {
-        sum = block(x, y, k, sum);
-        k += BLOCK;
+    let count = x.len().min(y.len());
+    if count < HALF {
+        return last(x, y, 0, count, 0);
     }
-    rest(x, y, k, count - k, sum)
+    blocks(x, y, count)
+}
+
+// The same of the first count numbers of both, a block at a time.
+#[tactic(auto, using(crate::proofs::Laws::Products::summing))]
+fn blocks(x: &[i16], y: &[i16], count: usize) -> u32
+    requires { (count ≤ length x.now) × (count ≤ length y.now) }
+    ensures { Summed x.now y.now 0 0 count result }
+{
+    let whole = count / BLOCK;
+    let mut sum = 0;
+    for k in 0..whole {
+        sum = block(x, y, k * BLOCK, sum);
+    }
+    rest(x, y, whole * BLOCK, count % BLOCK, sum)
 }
 
 // A sum with a block of products added, from number start of both lists on, modulo 2^32.
+#[tactic(auto, using(crate::proofs::Laws::Products::summing))]
 fn block(x: &[i16], y: &[i16], start: usize, before: u32) -> u32
     requires { (start + 64 ≤ length x.now) × (start + 64 ≤ length y.now) }
     ensures { Summed x.now y.now before start 64 result }
 {
     let mut sum = before;
-    let mut k = 0;
-    while k < BLOCK {
-        sum = products(x, y, start + k, ROW, sum);
-        k += ROW;
+    for k in 0..BLOCK / ROW {
+        sum = products(x, y, start + k * ROW, ROW, sum);
     }
     sum
 }
 
 // The same with count products, half a row at a time.
+#[tactic(auto, using(crate::proofs::Laws::Products::summing))]
 fn rest(x: &[i16], y: &[i16], start: usize, count: usize, before: u32) -> u32
     requires { (start + count ≤ length x.now) × (start + count ≤ length y.now) }
     ensures { Summed x.now y.now before start count result }
 {
+    let halves = count / HALF;
     let mut sum = before;
-    let mut k = 0;
-    while HALF <= count - k {
-        sum = products(x, y, start + k, HALF, sum);
-        k += HALF;
+    for k in 0..halves {
+        sum = products(x, y, start + k * HALF, HALF, sum);
     }
-    last(x, y, start + k, count - k, sum)
+    last(x, y, start + halves * HALF, count % HALF, sum)
 }
 
 // The same, a quarter of a row at once, where there are as many.
+#[tactic(auto, using(crate::proofs::Laws::Products::summing))]
 fn last(x: &[i16], y: &[i16], start: usize, count: usize, before: u32) -> u32
     requires { (start + count ≤ length x.now) × (start + count ≤ length y.now) }
     ensures { Summed x.now y.now before start count result }
@@ -79,36 +88,22 @@ fn last(x: &[i16], y: &[i16], start: usize, count: usize, before: u32) -> u32
 }
 
 // The same, one by one.
+#[tactic(auto, using(crate::proofs::Laws::Products::summing))]
 fn products(x: &[i16], y: &[i16], start: usize, count: usize, before: u32) -> u32
     requires { (start + count ≤ length x.now) × (start + count ≤ length y.now) }
     ensures { Summed x.now y.now before start count result }
 {
     let mut sum = before;
-    let mut k = 0;
-    while k < count {
-        let at = start + k;
-        let product = (x[at] as i32) * (y[at] as i32);
-        sum = std::num::wrapping_add_u32(sum, bits(product));
-        k += 1;
+    for k in 0..count {
+        sum = sum.wrapping_add(product(x[start + k], y[start + k]));
     }
     sum
 }
 
-fn shorter(m: usize, n: usize) -> usize
-    ensures { result ≡ min m n }
+// The product of two numbers, modulo 2^32.
+fn product(x: i16, y: i16) -> u32
+    ensures { result ≡ least_residue (2 ^ 32) (x *ℤ y) }
 {
-    if n < m {
-        return n;
-    }
-    m
-}
-
-// A signed number modulo 2^32.
-fn bits(n: i32) -> u32
-    ensures { result ≡ least_residue (2 ^ 32) n }
-{
-    // 2^32 is added, so that the sum is not negative
-    let lifted = (n as i64) + (WORD as i64);
-    let low = (lifted as u64) % WORD;
-    low as u32
+    let product = i32::from(x) * i32::from(y);
+    product.cast_unsigned()
 }

@@ -8,19 +8,14 @@ use crate::dot;
 pub fn turn(matrix: &[i16], height: u16, width: u16, list: &mut [i16])
     ensures { Turned matrix.now height width list.old list.new }
 {
-    let rows = height as usize;
-    let columns = width as usize;
+    let rows = usize::from(height);
+    let columns = usize::from(width);
     let count = rows * columns;
-    if matrix.len() < count {
+    if matrix.len() < count || list.len() < count {
         return;
     }
-    if list.len() < count {
-        return;
-    }
-    let mut row = 0;
-    while row < rows {
+    for row in 0..rows {
         turn_row(matrix, rows, columns, row, list);
-        row += 1;
     }
 }
 
@@ -31,12 +26,8 @@ fn turn_row(matrix: &[i16], height: usize, width: usize, row: usize, list: &mut 
     ensures { TurnedFurther matrix.now height width (row * width) (row * width + width) list.old list.new }
 {
     let start = row * width;
-    let mut at = row;
-    let mut column = 0;
-    while column < width {
-        list[at] = matrix[start + column];
-        at += height;
-        column += 1;
+    for column in 0..width {
+        list[column * height + row] = matrix[start + column];
     }
 }
 
@@ -45,14 +36,11 @@ pub fn row_sums(row: &[i16], columns: &[i16], sums: &mut [u32])
     ensures { RowSums row.now columns.now sums.old sums.new }
 {
     let inner = row.len();
-    let mut start = 0;
-    let mut j = 0;
-    while j < sums.len() {
+    for (j, sum) in sums.iter_mut().enumerate() {
+        let start = j * inner;
         if columns.len() - start < inner {
             return;
         }
-        sums[j] = dot(row, &columns[start..start + inner]);
-        start += inner;
-        j += 1;
+        *sum = dot(row, &columns[start..start + inner]);
     }
 }

@@ -5,8 +5,8 @@
 ghost use Rattle.std.specs.Prelude.{◌≡◌};
 ghost use Rattle.files.specs.Rules.{file_check};
 
-use bytes::{count, numbers, setting_of};
-use ticket::{Answer, Setting};
+use bytes::{NUMBERS, list_of, setting_of};
+use ticket::{Answer, Reason, Refusal, Setting};
 
 mod bytes;
 mod text;
@@ -28,15 +28,13 @@ pub fn check(setting: &[u8], ticket: &[u8], challenge: &[u8]) -> Answer
     ensures { result ≡ file_check setting.now ticket.now challenge.now }
 {
     if setting.len() != SETTING_BYTES {
-        return Answer {
-            number: 1,
-            place: 0,
-            row: 0,
-            products: 0,
-        };
+        return Refusal::from(Reason::Sizes).into();
     }
     let parameters = setting_of(setting);
-    let list = numbers(challenge);
-    let count = count(challenge.len());
-    challenge::check(parameters, ticket, &list[..count])
+    let mut room = [0; NUMBERS];
+    match list_of(challenge, &mut room) {
+        Some(list) => challenge::check(parameters, ticket, list),
+        // an empty list is as wrong: no setting within its limits asks for one
+        None => challenge::check(parameters, ticket, &[]),
+    }
 }

@@ -11,7 +11,8 @@ const FIELD: usize = 11;
 
 pub const LONGEST_LINE: usize = 4 * FIELD;
 
-// The line of an answer, at the beginning of the output, and how long it is. The rest of the output is not changed.
+// The line of an answer, at the beginning of the output, and how long it is. The rest of the output is not changed. It is written digit by
+// digit, since a `write!` to a buffer may fail by its contract, and then the line would not be known.
 pub fn line(answer: Answer, output: &mut [u8; LONGEST_LINE]) -> usize
     ensures { (result ≡ length (line_of answer)) × (output.new ≡ line_of answer ++ drop result output.old) × Leads result output.new }
 {

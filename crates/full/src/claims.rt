@@ -1,19 +1,19 @@
 // Test 16: every claim, row by row.
-ghost use Rattle.std.specs.Prelude.{◌≡◌, ◌≤◌, length};
+ghost use Rattle.std.specs.Prelude.{◌≡◌, ◌^◌, ◌<◌, ◌≤◌, length};
 ghost use Rattle.ticket.specs.Rules.{first};
 ghost use Rattle.ticket.specs.Laws.All.{all};
 ghost use Rattle.ticket.specs.Laws.Passes.{Passed};
 ghost use Rattle.ticket.specs.Laws.Runs.{steps_answer};
 ghost use Rattle.full.specs.Rules.{full_verdict};
-ghost use Rattle.full.specs.Laws.Sums.{claimed_for, sum_steps, SumsReady, SumRowReady, RowCompared};
+ghost use Rattle.full.specs.Laws.Sums.{claimed_for, compared, steps, SumsReady, SumRowReady, RowCompared};
 ghost use Rattle.full.specs.Laws.Claims.{Space};
 
-use ticket::{Answer, PartNumber, Setting};
+use ticket::{Answer, PartNumber, Reason, Setting};
 
 // The most entries of an operand, and the most claims; the most sums of a row.
-const ENTRIES: usize = (Setting::MOST_ROWS * Setting::MOST_INNER) as usize;
+const MOST_ENTRIES: usize = (Setting::MOST_ROWS * Setting::MOST_INNER) as usize;
 
-const CLAIMS: usize = (Setting::MOST_ROWS * Setting::MOST_COLUMNS) as usize;
+const MOST_CLAIMS: usize = (Setting::MOST_ROWS * Setting::MOST_COLUMNS) as usize;
 
 const ROW: usize = Setting::MOST_COLUMNS as usize;
 
@@ -30,23 +30,14 @@ pub(crate) fn check_claims(setting: Setting, ticket: &[u8]) -> Answer
         && (setting.size(PartNumber::B) <= small)
         && (setting.size(PartNumber::QUOTIENTS) <= small)
     {
-        return check_small(setting, ticket);
+        return check_in::<SMALL, SMALL>(setting, ticket);
     }
-    check_large(setting, ticket)
+    check_in::<MOST_ENTRIES, MOST_CLAIMS>(setting, ticket)
 }
 
-fn check_small(setting: Setting, ticket: &[u8]) -> Answer
-    requires { Passed setting ticket.now × Space setting 64 64 64 }
-    ensures { result ≡ full_verdict setting ticket.now }
-{
-    let mut rows = [0; SMALL];
-    let mut columns = [0; SMALL];
-    let mut claims = [0; SMALL];
-    decode_and_compare(setting, ticket, &mut rows, &mut columns, &mut claims)
-}
-
-fn check_large(setting: Setting, ticket: &[u8]) -> Answer
-    requires { Passed setting ticket.now }
+// The same in arrays for so many entries of an operand and so many claims.
+fn check_in<const ENTRIES: usize, const CLAIMS: usize>(setting: Setting, ticket: &[u8]) -> Answer
+    requires { Passed setting ticket.now × Space setting ENTRIES ENTRIES CLAIMS × (ENTRIES < 2 ^ 32) × (CLAIMS < 2 ^ 32) }
     ensures { result ≡ full_verdict setting ticket.now }
 {
     let mut rows = [0; ENTRIES];
@@ -79,72 +70,70 @@ fn decode_and_compare(
     ticket::lifted_claims(quotients, remainders, half, setting.scale, claims);
     ticket::subtract_entries(bias, claims);
     let width = setting.columns as usize;
-    let lift = setting.lift_of(half) as u32;
+    let decoded = Decoded {
+        setting,
+        rows,
+        columns,
+        claims,
+        lift: setting.lift_of(half) as u32,
+    };
     let mut sums = [0; ROW];
-    compare(setting, rows, columns, claims, &mut sums[..width], lift)
+    match decoded.compare(&mut sums[..width]) {
+        Ok(products) => Answer {
+            products,
+            ..Answer::PASSED
+        },
+        Err(untrue) => untrue,
+    }
 }
 
-// Each sum, row by row, against its claim, with room for the sums of a row. Sums and claims are lifted, and compared modulo 2^32: they
-// are less than p apart.
-fn compare(
+// What is compared: the rows of A and the columns of B, whose sums are lifted, and the claims, lifted and less the bias. It is compared
+// modulo 2^32: both are less than p apart.
+#[derive(Clone, Copy)]
+struct Decoded<'a> {
     setting: Setting,
-    rows: &[i16],
-    columns: &[i16],
-    claims: &[u32],
-    sums: &mut [u32],
+    rows: &'a [i16],
+    columns: &'a [i16],
+    claims: &'a [u32],
     lift: u32,
-) -> Answer
-    requires { SumsReady setting rows.now columns.now claims.now (length sums.old) lift }
-    ensures { result ≡ steps_answer (sum_steps setting rows.now columns.now claims.now) }
-{
-    let mut answer = Answer::PASSED;
-    let mut row: u32 = 0;
-    while row < setting.rows {
-        answer = compare_row(setting, rows, columns, claims, sums, lift, row, answer);
-        if answer.number != 0 {
-            return answer;
+}
+
+impl Decoded<'_> {
+    // Each sum, row by row, against its claim, with room for the sums of a row: the products made, or the answer of the first untrue claim.
+    fn compare(&self, sums: &mut [u32]) -> Result<u32, Answer>
+        requires { SumsReady self.now (length sums.old) }
+        ensures { compared result ≡ steps_answer (steps self.now) }
+    {
+        let mut products = 0;
+        for row in 0..self.setting.rows {
+            products = self.compare_row(row, products, sums)?;
         }
-        row += 1;
+        Ok(products)
     }
-    answer
-}
 
-// The sums of one row, after the answer of the rows before it. The products made are counted in the answer.
-fn compare_row(
-    setting: Setting,
-    rows: &[i16],
-    columns: &[i16],
-    claims: &[u32],
-    sums: &mut [u32],
-    lift: u32,
-    row: u32,
-    before: Answer,
-) -> Answer
-    requires { SumRowReady setting rows.now columns.now claims.now (length sums.old) lift row before }
-    ensures { RowCompared setting rows.now columns.now claims.now row result }
-{
-    let inner = setting.inner as usize;
-    let width = setting.columns as usize;
-    let at = (row as usize) * inner;
-    let start = (row as usize) * width;
-    exact::row_sums(&rows[at..at + inner], columns, sums);
-    let count = agreeing(sums, &claims[start..start + width], lift);
-    let products = before.products + ((inner * count) as u32);
-    if count < width {
-        let place = (start + count) as u32;
-        let made = products + setting.inner;
-        return Answer {
-            number: 16,
-            place,
-            row: 0,
-            products: made,
-        };
-    }
-    Answer {
-        number: 0,
-        place: 0,
-        row: 0,
-        products,
+    // The sums of one row, after the products of the rows before it.
+    fn compare_row(&self, row: u32, before: u32, sums: &mut [u32]) -> Result<u32, Answer>
+        requires { SumRowReady self.now (length sums.old) row before }
+        ensures { RowCompared self.now row result }
+    {
+        let inner = self.setting.inner as usize;
+        let width = self.setting.columns as usize;
+        let at = (row as usize) * inner;
+        let start = (row as usize) * width;
+        exact::row_sums(&self.rows[at..at + inner], self.columns, sums);
+        let count = agreeing(sums, &self.claims[start..start + width], self.lift);
+        let products = before + ((inner * count) as u32);
+        if count < width {
+            let place = (start + count) as u32;
+            let made = products + self.setting.inner;
+            return Err(Answer {
+                number: Reason::Claim.number(),
+                place,
+                row: 0,
+                products: made,
+            });
+        }
+        Ok(products)
     }
 }
 
@@ -157,14 +146,12 @@ fn agreeing(sums: &[u32], claims: &[u32], lift: u32) -> usize
     if all_agree(sums, claims, lift) {
         return sums.len();
     }
-    let mut j = 0;
-    while j < sums.len() {
-        if std::num::wrapping_add_u32(sums[j], lift) != claims[j] {
+    for (j, sum) in sums.iter().enumerate() {
+        if sum.wrapping_add(lift) != claims[j] {
             return j;
         }
-        j += 1;
     }
-    j
+    sums.len()
 }
 
 fn all_agree(sums: &[u32], claims: &[u32], lift: u32) -> bool
@@ -172,10 +159,8 @@ fn all_agree(sums: &[u32], claims: &[u32], lift: u32) -> bool
     ensures { result ≡ all (length sums.now) (claimed_for sums.now claims.now lift) }
 {
     let mut all = true;
-    let mut k = 0;
-    while k < sums.len() {
-        all = all & (std::num::wrapping_add_u32(sums[k], lift) == claims[k]);
-        k += 1;
+    for (k, sum) in sums.iter().enumerate() {
+        all &= sum.wrapping_add(lift) == claims[k];
     }
     all
 }

@@ -12,9 +12,8 @@ mod claims;
 pub fn check(setting: Setting, ticket: &[u8]) -> Answer
     ensures { result ≡ full_check setting ticket.now }
 {
-    let read = ticket::read(setting, ticket);
-    if read.number != 0 {
-        return read;
+    match ticket::read(setting, ticket) {
+        Ok(()) => claims::check_claims(setting, ticket),
+        Err(refusal) => Answer::from(refusal),
     }
-    claims::check_claims(setting, ticket)
 }

@@ -4,10 +4,11 @@
 
 ghost use Rattle.std.specs.Prelude.{◌≡◌};
 ghost use Rattle.challenge.specs.Rules.{challenge_products};
+ghost use Rattle.ticket.specs.Rules.{reason_number};
 ghost use Rattle.ticket.specs.Laws.Limits.{Within};
 ghost use Rattle.quote.specs.Rules.{figures, no_figures, quote_of};
 
-use ticket::Setting;
+use ticket::{Reason, Setting};
 
 // A number of the published table (0: the figures are given), and the figures, which are 0 beside any other number.
 #[repr(C)]
@@ -27,19 +28,15 @@ pub struct Quote {
 pub fn quote_of(setting: Setting) -> Quote
     ensures { result ≡ quote_of setting }
 {
-    let mut width = 1;
-    while width <= Setting::MOST_WIDTH {
+    for width in 1..=Setting::MOST_WIDTH {
         let tried = setting.with_width(width);
-        let number = tried.number_of(tried.half());
-        if number == 0 {
-            return figures(tried);
+        match tried.test(tried.half()) {
+            Ok(()) => return figures(tried),
+            Err(Reason::Fit) => {}
+            Err(reason) => return no_figures(reason),
         }
-        if number != Setting::UNFIT {
-            return no_figures(number);
-        }
-        width += 1;
     }
-    no_figures(20)
+    no_figures(Reason::NoWidth)
 }
 
 // The figures of a setting that passes its tests, with its own width.
@@ -66,11 +63,12 @@ fn challenge_products(setting: Setting) -> u32
     setting.vectors * (setting.inner * setting.columns + setting.rows * row)
 }
 
-fn no_figures(number: u32) -> Quote
-    ensures { result ≡ no_figures number }
+// What stands beside a refusal.
+fn no_figures(reason: Reason) -> Quote
+    ensures { result ≡ no_figures (reason_number reason) }
 {
     Quote {
-        number,
+        number: reason.number(),
         width: 0,
         length: 0,
         full: 0,

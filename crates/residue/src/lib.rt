@@ -11,11 +11,11 @@ mod products;
 pub use products::ProductSum;
 
 // A residue, by a number that is equal to it modulo p. The calls below return the least one, from 0 to p - 1.
-#[derive(Clone, Copy)]
+#[derive(Clone, Copy, Debug, PartialEq, Eq)]
 pub struct Residue(pub u32);
 
 // A signed entry, the integer that a residue stands for. The calls below return one from -(p - 1)/2 to (p - 1)/2.
-#[derive(Clone, Copy)]
+#[derive(Clone, Copy, Debug, PartialEq, Eq)]
 pub struct Entry(pub i32);
 
 impl Residue {
@@ -29,12 +29,14 @@ impl Residue {
     // (p - 1)/2, the largest residue that stands for itself
     const LARGEST_ENTRY: u32 = (Residue::MODULUS - 1) / 2;
 
+    #[tactic(auto, unfolding(crate::specs::Rules::modulus, crate::specs::Rules::least_residue))]
     pub fn zero() -> Residue
         ensures { result.0 ≡ least_residue modulus (pos 0) }
     {
         Residue::ZERO
     }
 
+    #[tactic(auto, unfolding(crate::specs::Rules::modulus, crate::specs::Rules::least_residue))]
     pub fn one() -> Residue
         ensures { result.0 ≡ least_residue modulus (pos 1) }
     {
@@ -42,6 +44,7 @@ impl Residue {
     }
 
     // p, by its name in the rules: what is proved above of a call of this says nothing of its digits.
+    #[tactic(auto, unfolding(crate::specs::Rules::modulus))]
     pub fn modulus() -> u32
         ensures { result ≡ modulus }
     {
@@ -49,6 +52,7 @@ impl Residue {
     }
 
     // Whether this is a least residue, below p.
+    #[tactic(auto, unfolding(crate::specs::Rules::modulus))]
     pub fn is_least(self) -> bool
         ensures { result ≡ nat_lt self.0 modulus }
     {
@@ -56,10 +60,11 @@ impl Residue {
     }
 
     // The least residue of an unsigned number.
+    #[tactic(auto, unfolding(crate::specs::Rules::modulus, crate::specs::Rules::least_residue))]
     pub fn reduce(x: u64) -> Residue
         ensures { result.0 ≡ least_residue modulus (pos x) }
     {
-        let least = x % (Residue::MODULUS as u64);
+        let least = x % u64::from(Residue::MODULUS);
         Residue(least as u32)
     }
 
@@ -68,28 +73,28 @@ impl Residue {
         ensures { result.0 ≡ least_residue modulus entry.0 }
     {
         // 2p is added, so that the sum is not negative
-        let lifted = (entry.0 as i64) + 2 * (Residue::MODULUS as i64);
+        let lifted = i64::from(entry.0) + 2 * i64::from(Residue::MODULUS);
         Residue::reduce(lifted as u64)
     }
 
     pub fn add(self, other: Residue) -> Residue
         ensures { result.0 ≡ least_residue modulus (pos self.0 +ℤ pos other.0) }
     {
-        Residue::reduce((self.0 as u64) + (other.0 as u64))
+        Residue::reduce(u64::from(self.0) + u64::from(other.0))
     }
 
     pub fn subtract(self, other: Residue) -> Residue
         ensures { result.0 ≡ least_residue modulus (pos self.0 -ℤ pos other.0) }
     {
         // p is added, so that the difference is not negative
-        let lifted = (self.0 as u64) + (Residue::MODULUS as u64);
-        Residue::reduce(lifted - (other.0 % Residue::MODULUS) as u64)
+        let lifted = u64::from(self.0) + u64::from(Residue::MODULUS);
+        Residue::reduce(lifted - u64::from(other.0 % Residue::MODULUS))
     }
 
     pub fn multiply(self, other: Residue) -> Residue
         ensures { result.0 ≡ least_residue modulus (pos self.0 *ℤ pos other.0) }
     {
-        Residue::reduce((self.0 as u64) * (other.0 as u64))
+        Residue::reduce(u64::from(self.0) * u64::from(other.0))
     }
 
     // The signed entry that this residue stands for.

@@ -10,7 +10,7 @@ use crate::Residue;
 const SPLIT: u64 = 2_147_483_648;
 
 // The number low + 2^31 · high.
-#[derive(Clone, Copy)]
+#[derive(Clone, Copy, Debug, PartialEq, Eq)]
 pub struct ProductSum {
     pub low: u64,
     pub high: u64,
@@ -29,8 +29,8 @@ impl ProductSum {
         ensures { WithNumber self.low self.high n result.low result.high }
     {
         ProductSum {
-            low: std::num::wrapping_add_u64(self.low, n % SPLIT),
-            high: std::num::wrapping_add_u64(self.high, n / SPLIT),
+            low: self.low.wrapping_add(n % SPLIT),
+            high: self.high.wrapping_add(n / SPLIT),
         }
     }
 

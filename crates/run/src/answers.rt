@@ -1,18 +1,34 @@
 // Whether a run is finished, how it goes on, and what is said of it.
 ghost use Rattle.std.specs.Prelude.{◌≡◌};
-ghost use Rattle.ticket.specs.Rules.{plain};
-ghost use Rattle.run.specs.Rules.{is_finished, is_past, marked, products_done, standing, tested};
-ghost use Rattle.run.specs.Laws.States.{Answerable, DoneReady, due, proceeded};
+ghost use Rattle.ticket.specs.Rules.{answer, plain};
+ghost use Rattle.ticket.specs.Laws.Limits.{Sizes};
+ghost use Rattle.run.specs.Rules.{is_caught, is_finished, is_past, layer, marked, products_done, refused, standing};
+ghost use Rattle.run.specs.Laws.States.{DoneReady, due, mark_of, proceeded};
 
 use crate::{Run, RunAnswer};
 use challenge::RowAnswer;
-use ticket::{Answer, PlainSetting};
+use ticket::{Answer, PlainSetting, Reason};
 
-// What is said of a run.
+// How a run stands, or that a call refused.
 #[derive(Clone, Copy)]
-struct Told {
-    mark: u32,
-    answer: Answer,
+enum Standing {
+    UnderWay,
+    Caught,
+    Complete,
+    Refused,
+}
+
+impl From<Standing> for u32 {
+    ghost from_gives = { λ standing mark. mark ≡ mark_of standing };
+
+    fn from(standing: Standing) -> u32 {
+        match standing {
+            Standing::UnderWay => RunAnswer::UNDER_WAY,
+            Standing::Caught => RunAnswer::CAUGHT,
+            Standing::Complete => RunAnswer::COMPLETE,
+            Standing::Refused => RunAnswer::REFUSED,
+        }
+    }
 }
 
 impl Run {
@@ -20,13 +36,19 @@ impl Run {
     fn is_past(self) -> bool
         ensures { result ≡ is_past self }
     {
-        (self.setting.vectors <= self.vector) | (self.setting.rows <= self.row)
+        self.setting.vectors <= self.vector || self.setting.rows <= self.row
+    }
+
+    fn is_caught(self) -> bool
+        ensures { result ≡ is_caught self }
+    {
+        0 < self.caught
     }
 
     pub(crate) fn is_finished(self) -> bool
         ensures { result ≡ is_finished self }
     {
-        self.is_past() | (0 < self.caught)
+        self.is_past() || self.is_caught()
     }
 
     // The vector whose row is due. Where the run is finished none is: then it is one that is not there.
@@ -39,82 +61,85 @@ impl Run {
         self.vector
     }
 
-    // The state after a row, where one was due and the tests passed: caught, or on to the next row, after the last to the first of the next vector.
+    // The state after a row, where one was due: with its u, and caught, or on to the next row, after the last to the first of the next vector.
     pub(crate) fn proceeded(mut self, made: RowAnswer) -> Run
         ensures { result ≡ proceeded self made }
     {
-        if (made.tested.number == 0) & !self.is_finished() {
-            if made.balanced {
-                self.row += 1;
-                if self.setting.rows <= self.row {
-                    self.row = 0;
-                    self.vector += 1;
-                }
-            } else {
-                self.caught = 1;
+        if self.is_finished() {
+            return self;
+        }
+        let u = made.u;
+        self.u = u;
+        if made.balanced {
+            self.row += 1;
+            if self.setting.rows <= self.row {
+                self.row = 0;
+                self.vector += 1;
             }
+        } else {
+            self.caught = 1;
         }
         self
     }
 
-    // The answer of a state after tests: their refusal, or that of the state by itself. The state is put into it in one place, for speed.
-    pub(crate) fn answered(self, read: Answer) -> RunAnswer
-        requires { Answerable self read }
-        ensures { result ≡ tested self read (standing self) }
+    // The answer of a refusal, with the state as it is.
+    pub(crate) fn refused(self, answer: Answer) -> RunAnswer
+        ensures { result ≡ marked self refused answer }
     {
-        let told = self.told(read);
-        let answer = told.answer;
         RunAnswer {
             run: self,
-            mark: told.mark,
+            mark: Standing::Refused.into(),
             answer,
         }
     }
 
-    fn told(self, read: Answer) -> Told
-        requires { Answerable self read }
-        ensures { marked self result.mark result.answer ≡ tested self read (standing self) }
+    // The answer of a state by itself. The state is put into it in one place, for speed.
+    pub(crate) fn answered(self) -> RunAnswer
+        requires { Sizes (layer self) }
+        ensures { result ≡ standing self }
     {
-        if read.number != 0 {
-            return Told {
-                mark: RunAnswer::REFUSED,
-                answer: read,
-            };
+        let (standing, answer) = self.told();
+        RunAnswer {
+            run: self,
+            mark: standing.into(),
+            answer,
         }
+    }
+
+    // How a state stands, and its answer's numbers.
+    fn told(self) -> (Standing, Answer)
+        requires { Sizes (layer self) }
+        ensures { marked self (mark_of result.0) result.1 ≡ standing self }
+    {
         let setting = self.setting;
         if self.is_past() {
+            let products = products_done(setting, setting.vectors, 0);
             let answer = Answer {
-                number: 0,
-                place: 0,
-                row: 0,
-                products: products_done(setting, setting.vectors, 0),
+                products,
+                ..Answer::PASSED
             };
-            return Told {
-                mark: RunAnswer::COMPLETE,
-                answer,
-            };
+            return (Standing::Complete, answer);
         }
-        if 0 < self.caught {
-            let answer = Answer {
-                number: 12,
-                place: self.vector,
-                row: self.row,
-                products: products_done(setting, self.vector, self.row + 1),
-            };
-            return Told {
-                mark: RunAnswer::CAUGHT,
-                answer,
-            };
+        if self.is_caught() {
+            let products = products_done(setting, self.vector, self.row + 1);
+            return (
+                Standing::Caught,
+                self.here(Reason::Caught.number(), products),
+            );
         }
-        let answer = Answer {
-            number: 0,
+        let products = products_done(setting, self.vector, self.row);
+        (Standing::UnderWay, self.here(0, products))
+    }
+
+    // An answer about the next vector and row.
+    fn here(self, number: u32, products: u32) -> Answer
+        ensures { result ≡ answer number self.vector self.row products }
+    {
+        Answer {
+            number,
             place: self.vector,
             row: self.row,
-            products: products_done(setting, self.vector, self.row),
-        };
-        Told {
-            mark: RunAnswer::UNDER_WAY,
-            answer,
+            products,
         }
     }
 }

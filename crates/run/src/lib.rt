@@ -57,41 +57,37 @@ impl Run {
     pub fn begin(setting: PlainSetting, ticket: &[u8], list: &[u32]) -> RunAnswer
         ensures { result ≡ beginning setting ticket.now list.now }
     {
-        let read = challenge::read(setting.plain(), ticket, list);
-        if read.number != 0 {
-            return lists::zeros().answered(read);
+        match challenge::read(Setting::from(setting), ticket, list) {
+            Ok(()) => lists::begun(setting, list).answered(),
+            Err(refusal) => lists::zeros().refused(Answer::from(refusal)),
         }
-        lists::begun(setting, list).answered(read)
     }
 
     // The ordinary tests of the state and of the ticket lent, then one row, where the run is not finished.
-    pub fn step(mut self, ticket: &[u8]) -> RunAnswer
+    pub fn step(self, ticket: &[u8]) -> RunAnswer
         ensures { result ≡ stepping self ticket.now }
     {
-        let list = self.list;
-        let before = self.u;
         let made = challenge::check_one_row(
-            self.setting.plain(),
+            Setting::from(self.setting),
             ticket,
-            lists::held(&list, self.length),
+            lists::held(&self.list, self.length),
             self.due(),
             self.row,
-            before,
+            self.u,
         );
-        let u = made.u;
-        self.u = u;
-        let read = made.tested;
-        self.proceeded(made).answered(read)
+        if made.tested.number != 0 {
+            return self.refused(made.tested);
+        }
+        self.proceeded(made).answered()
     }
 
     // The tests of the state and of a vector, which then joins the end of the list, where the run is not finished and has room for it.
-    pub fn add(mut self, vector: &[u32]) -> RunAnswer
+    pub fn add(self, vector: &[u32]) -> RunAnswer
         ensures { result ≡ adding self vector.now }
     {
-        let read = self.read_addition(vector);
-        if read.number != 0 {
-            return self.answered(read);
+        match self.read_addition(vector) {
+            Ok(()) => self.lengthened(vector).answered(),
+            Err(refusal) => self.refused(Answer::from(refusal)),
         }
-        self.lengthened(vector).answered(read)
     }
 }

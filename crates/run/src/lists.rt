@@ -1,7 +1,6 @@
 // The lists of states: made, read and lengthened.
-ghost use Rattle.std.specs.Prelude.{◌≡◌, cond, ◌+◌, ◌≤◌, leb, length, get_or, take};
-ghost use Rattle.algebra.specs.Laws.Fills.{Filled};
-ghost use Rattle.ticket.specs.Rules.{refusal, setting_number};
+ghost use Rattle.std.specs.Prelude.{◌≡◌, cond, ◌+◌, ◌≤◌, leb, length, take};
+ghost use Rattle.ticket.specs.Rules.{answered, setting_number};
 ghost use Rattle.ticket.specs.Laws.Vectors.{vectored};
 ghost use Rattle.challenge.specs.Rules.{list_reading};
 ghost use Rattle.challenge.specs.Laws.Lengthened.{placed_after};
@@ -9,31 +8,28 @@ ghost use Rattle.run.specs.Rules.{addition_reading, begun, lengthened, most_numb
 ghost use Rattle.run.specs.Laws.Additions.{Additional};
 
 use crate::{INNER, NUMBERS, Run};
-use ticket::{Answer, PlainSetting, Setting};
+use ticket::{PlainSetting, Reason, Refusal, Setting};
 
 // The state of zeros.
 pub(crate) fn zeros() -> Run
     ensures { result ≡ zeros }
 {
-    let setting = PlainSetting {
-        rows: 0,
-        inner: 0,
-        columns: 0,
-        vectors: 0,
-        scale: 0,
-        bound: 0,
-        width: 0,
-        rounding: 0,
-    };
-    let list = [0; NUMBERS];
-    let u = [0; INNER];
     Run {
-        setting,
-        list,
+        setting: PlainSetting {
+            rows: 0,
+            inner: 0,
+            columns: 0,
+            vectors: 0,
+            scale: 0,
+            bound: 0,
+            width: 0,
+            rounding: 0,
+        },
+        list: [0; NUMBERS],
         length: 0,
         vector: 0,
         row: 0,
-        u,
+        u: [0; INNER],
         caught: 0,
     }
 }
@@ -44,16 +40,12 @@ pub(crate) fn begun(setting: PlainSetting, list: &[u32]) -> Run
     ensures { result ≡ begun setting list.now }
 {
     let mut held = [0; NUMBERS];
-    copy(list, &mut held);
-    let u = [0; INNER];
+    put(list, &mut held, 0);
     Run {
         setting,
         list: held,
         length: list.len() as u32,
-        vector: 0,
-        row: 0,
-        u,
-        caught: 0,
+        ..zeros()
     }
 }
 
@@ -61,32 +53,21 @@ pub(crate) fn begun(setting: PlainSetting, list: &[u32]) -> Run
 pub(crate) fn held(list: &[u32], count: u32) -> &[u32]
     ensures { result.now ≡ take (cond (leb count (length list.now)) count 0) list.now }
 {
-    let end = count as usize;
-    if list.len() < end {
-        return &list[..0];
-    }
-    &list[..end]
+    list.get(..count as usize).unwrap_or(&[])
 }
 
 impl Run {
-    // The answer of the tests of an addition.
-    pub(crate) fn read_addition(self, vector: &[u32]) -> Answer
-        ensures { result ≡ addition_reading self vector.now }
+    // The tests of an addition.
+    pub(crate) fn read_addition(self, vector: &[u32]) -> Result<(), Refusal>
+        ensures { answered result ≡ addition_reading self vector.now }
     {
-        let setting = self.setting.plain();
-        let list = self.list;
-        let listed = challenge::read_list(setting, held(&list, self.length));
-        if listed.number != 0 {
-            return listed;
+        let setting = Setting::from(self.setting);
+        challenge::read_list(setting, held(&self.list, self.length))?;
+        read_vector(setting, vector)?;
+        if self.is_finished() || Setting::MOST_VECTORS <= self.setting.vectors {
+            return Err(Refusal::from(Reason::Addition));
         }
-        let tested = read_vector(setting, vector);
-        if tested.number != 0 {
-            return tested;
-        }
-        if self.is_finished() | (Setting::MOST_VECTORS <= self.setting.vectors) {
-            return refusal(22, 0);
-        }
-        Answer::PASSED
+        Ok(())
     }
 
     // The state with a vector at the end of its list.
@@ -95,41 +76,30 @@ impl Run {
         ensures { result ≡ lengthened self vector.now }
     {
         let start = self.length as usize;
-        let mut list = self.list;
-        put(vector, &mut list, start);
-        self.list = list;
+        put(vector, &mut self.list, start);
         self.length = (start + vector.len()) as u32;
-        let mut setting = self.setting;
-        setting.vectors += 1;
-        self.setting = setting;
+        self.setting.vectors += 1;
         self
     }
 }
 
-// The answer of the tests of a vector after a list: those of a list of one vector, with places counted on.
-fn read_vector(setting: Setting, vector: &[u32]) -> Answer
+// The tests of a vector after a list: those of a list of one vector, with places counted on.
+fn read_vector(setting: Setting, vector: &[u32]) -> Result<(), Refusal>
     requires { setting_number setting ≡ 0 }
-    ensures { result ≡ placed_after setting (list_reading (vectored setting 1) vector.now) }
+    ensures { answered result ≡ placed_after setting (list_reading (vectored setting 1) vector.now) }
 {
-    let tested = challenge::read_list(setting.with_vectors(1), vector);
-    if tested.number == 11 {
-        return refusal(11, setting.vectors * setting.columns + tested.place);
-    }
-    if tested.number == 21 {
-        return refusal(21, setting.vectors + tested.place);
-    }
-    tested
-}
-
-fn refusal(number: u32, place: u32) -> Answer
-    ensures { result ≡ refusal number place }
-{
-    Answer {
-        number,
-        place,
-        row: 0,
-        products: 0,
-    }
+    let Err(refusal) = challenge::read_list(setting.with_vectors(1), vector) else {
+        return Ok(());
+    };
+    let before = match refusal.reason {
+        Reason::ListNumber => setting.vectors * setting.columns,
+        Reason::ZeroVector => setting.vectors,
+        _ => 0,
+    };
+    Err(Refusal {
+        place: before + refusal.place,
+        ..refusal
+    })
 }
 
 // Numbers to a list, from a place on.
@@ -137,18 +107,5 @@ fn put(numbers: &[u32], list: &mut [u32], start: usize)
     requires { start + length numbers.now ≤ length list.old }
     ensures { list.new ≡ overwritten list.old start numbers.now }
 {
-    let end = start + numbers.len();
-    copy(numbers, &mut list[start..end]);
-}
-
-// Numbers to the beginning of a list.
-fn copy(numbers: &[u32], list: &mut [u32])
-    requires { length numbers.now ≤ length list.old }
-    ensures { Filled 0 list.old (length numbers.now) (λ k. get_or numbers.now k 0) list.new }
-{
-    let mut k = 0;
-    while k < numbers.len() {
-        list[k] = numbers[k];
-        k += 1;
-    }
+    list[start..start + numbers.len()].copy_from_slice(numbers);
 }

@@ -2,6 +2,7 @@
 // challenge check's answer. A file that is missing or cannot be read counts as empty.
 #![tactic(auto)]
 
+ghost use Rattle.std.specs.Prelude.{◌≡◌, ◌≤◌, take};
 ghost use Rattle.files.specs.Laws.Prefixes.{Leads};
 ghost use Rattle.files.specs.Laws.Starts.{BuffersRoom, AnswerFor};
 
@@ -13,48 +14,67 @@ use std::rt::Files;
 use ticket::{Answer, Setting};
 
 // Of each file one byte more is read than the longest has, which is enough to tell that it is too long.
+const SETTING_ROOM: usize = SETTING_BYTES + 1;
+
+const TICKET_ROOM: usize = Setting::LONGEST_TICKET + 1;
+
+const CHALLENGE_ROOM: usize = LONGEST_CHALLENGE + 1;
+
+// The first bytes of a file, as many as it has and there is room for.
+#[derive(Drop)]
+struct Start<const ROOM: usize> {
+    bytes: [u8; ROOM],
+    length: usize,
+    ghost filled: { length ≤ ROOM },
+}
+
+impl<const ROOM: usize> Start<ROOM> {
+    // Of the file of this name.
+    fn read(files: &impl Files, name: &str) -> Start<ROOM> {
+        let mut bytes = [0; ROOM];
+        let length = match File::open(files, name) {
+            Ok(mut file) => fill(&mut file, &mut bytes),
+            Err(_) => 0,
+        };
+        Start { bytes, length }
+    }
+
+    fn as_slice(&self) -> &[u8]
+        ensures { result.now ≡ take self.now.length self.now.bytes }
+    {
+        &self.bytes[..self.length]
+    }
+}
+
 fn main(rt: HostRuntime) -> io::Result<()> {
-    let mut setting = [0; SETTING_BYTES + 1];
-    let mut ticket = [0; Setting::LONGEST_TICKET + 1];
-    let mut challenge = [0; LONGEST_CHALLENGE + 1];
-    let i = read(&rt, "setting.rec", &mut setting);
-    let j = read(&rt, "ticket.rec", &mut ticket);
-    let k = read(&rt, "challenge.rec", &mut challenge);
-    let answer = check(&setting, i, &ticket, j, &challenge, k);
+    let setting = Start::read(&rt, "setting.rec");
+    let ticket = Start::read(&rt, "ticket.rec");
+    let challenge = Start::read(&rt, "challenge.rec");
+    let answer = check::<SETTING_ROOM, TICKET_ROOM, CHALLENGE_ROOM>(&setting, &ticket, &challenge);
     let mut line = [0; LONGEST_LINE];
     let length = files::line(answer, &mut line);
     rt.stdout().write_all(&line[..length])
 }
 
-// The first bytes of a file, as many as it has and the buffer holds; how many they are.
-fn read(files: &impl Files, name: &str, buffer: &mut [u8]) -> usize
-    ensures { Leads result buffer.new }
-{
-    let length = match File::open(files, name) {
-        Ok(mut file) => fill(&mut file, buffer),
-        Err(_) => 0,
-    };
-    length
-}
-
-// The same of an open file, up to its end or to a read that fails.
+// The first bytes of an open file into a buffer, up to the file's end or to a read that fails; how many they are.
 fn fill(file: &mut impl Read, buffer: &mut [u8]) -> usize
     ensures { Leads result buffer.new }
 {
     let mut done = 0;
-    while done < buffer.len() {
-        match file.read(&mut buffer[done..]) {
-            Ok(n) if n > 0 => done += n,
-            _ => break,
-        }
+    while let Ok(more @ 1..) = file.read(&mut buffer[done..]) {
+        done += more;
     }
     done
 }
 
-// The answer for the files of which the first i, j and k bytes are in the buffers.
-fn check(setting: &[u8], i: usize, ticket: &[u8], j: usize, challenge: &[u8], k: usize) -> Answer
-    requires { BuffersRoom setting.now i ticket.now j challenge.now k }
-    ensures { AnswerFor setting.now i ticket.now j challenge.now k result }
+// The answer for the files that begin so.
+fn check<const I: usize, const J: usize, const K: usize>(
+    setting: &Start<I>,
+    ticket: &Start<J>,
+    challenge: &Start<K>,
+) -> Answer
+    requires { BuffersRoom setting.now.bytes setting.now.length ticket.now.bytes ticket.now.length challenge.now.bytes challenge.now.length }
+    ensures { AnswerFor setting.now.bytes setting.now.length ticket.now.bytes ticket.now.length challenge.now.bytes challenge.now.length result }
 {
-    files::check(&setting[..i], &ticket[..j], &challenge[..k])
+    files::check(setting.as_slice(), ticket.as_slice(), challenge.as_slice())
 }

@@ -1,5 +1,6 @@
 -- The whole check: the tests of the ticket, then those of the list, then the rows.
 --
+--   ticket_passes   a ticket whose tests give the answer 0 passes
 --   check_ticket    where the ticket is refused, so is the check
 --   check_list      where the ticket passes and the list is refused, so is the check
 --   check_rows      where both pass, the check is the verdict of the rows
@@ -8,12 +9,17 @@ use Rattle.std.specs.Prelude.{◌≡◌, List, ℕ}
 use Rattle.std.proofs.Common.{sym, ap, ◌∙◌}
 use Rattle.ticket.specs.declared.setting.Setting.{Setting}
 use Rattle.ticket.specs.declared.Answer.{Answer}
-use Rattle.ticket.specs.Rules.{reading, after}
+use Rattle.ticket.specs.Rules.{reading, refusal, after}
 use Rattle.ticket.specs.Laws.Passes.{Passed}
+use Rattle.ticket.proofs.Laws.Answers.{passed_zero}
+use Rattle.ticket.proofs.Laws.Passes.{passed_of}
 use Rattle.ticket.proofs.Laws.Scans.{after_first, after_second}
 use Rattle.challenge.specs.Rules.{list_reading, verdict, challenge_check}
 use Rattle.challenge.proofs.Laws.Lists.{well_formed_is}
 use Rattle.challenge.specs.Laws.Vectors.{ListReady}
+
+pub ticket_passes : {G : Setting} {t : List ℕ} → refusal 0 0 ≡ reading G t → Passed G t
+ticket_passes is = passed_of _ _ (passed_zero is)
 
 module _ (G : Setting) (t x : List ℕ) {a : Answer} (a-is : a ≡ reading G t) where
   pub check_ticket : (a.number ≡ 0 → ⊥) → a ≡ challenge_check G t x

@@ -5,7 +5,7 @@
 --   vector_other          vector τ passes test 21 exactly when it is not that
 --   vector_zero           where it is, the test gives 21
 --   vector_refused        where it does not pass, it is
---   line_zero, line_other   both by the first number that is not 0 of the line in which the vector stands
+--   line_zero, line_other   both by whether all numbers of the line are 0 in which the vector stands
 --   numbers_refused, numbers_passed   the answer of test 11, by the first number that is not a least residue
 --   vectors_refused       the answer of test 21, by the first vector that does not pass
 --   well_formed_is        a list is well formed exactly when it is that
@@ -17,7 +17,11 @@
 --   all_nonzero           a list of numbers from 1 to p - 1 passes
 --   ListAnswer G x a, list_answered   the condition of the answer a of these tests, no earlier one failing; it holds for the answer of the list
 --   list_place            its place is at most that of a number or vector past the last
-use Rattle.std.specs.Prelude.{ℕ, ◌+◌, ◌-◌, ◌*◌, ◌≤◌, ◌<◌, ◌≡◌, refl, true, ◌↔◌, List, length, get_or}
+use Rattle.std.specs.Prelude.{ℕ, ◌+◌, ◌-◌, ◌*◌, ◌≤◌, ◌<◌, ◌≡◌, refl, Bool, true, false, ◌↔◌, List, length, get_or}
+use Rattle.std.specs.List.{AllPass, list_all}
+use Rattle.std.proofs.lemmas.Bool.{false≢true}
+use Rattle.std.proofs.lemmas.List.Elements.{All-get_or, All-from_get_or}
+use Rattle.std.proofs.lemmas.List.Sums.{AllPass-from_list_all, list_all-from_AllPass}
 use Rattle.std.proofs.Math.Decide.{ℕ_discrete, dec_le}
 use native.Mathlib.Omega.{arith}
 use Rattle.std.proofs.Common.{sym, subst, ◌∙◌, ⊎_elim}
@@ -32,11 +36,11 @@ use Rattle.algebra.proofs.Laws.Fills.{part_of, part_long}
 use Rattle.algebra.proofs.Laws.Positions.{row_inside}
 use Rattle.ticket.specs.declared.setting.Setting.{Setting}
 use Rattle.ticket.specs.declared.Answer.{Answer}
-use Rattle.ticket.specs.Rules.{first, after, refusal, first_refusal}
+use Rattle.ticket.specs.Rules.{after, refusal, first_refusal}
 use Rattle.ticket.specs.Laws.All.{all}
 use Rattle.ticket.proofs.Laws.All.{all_at}
 use Rattle.ticket.proofs.Laws.Answers.{unless_zero, after_zero, scan_zero, first_past}
-use Rattle.ticket.proofs.Laws.First.{first_within, first_cong}
+use Rattle.ticket.proofs.Laws.First.{first_within}
 use Rattle.ticket.proofs.Laws.Limits.{within_both}
 use Rattle.ticket.proofs.Laws.Scans.{refusal_none, refusal_is, zeros_or_first, after_first, after_second}
 use Rattle.challenge.specs.Rules.{challenge_at, WellFormed, list_number, first_nonzero, vector_number, list_reading}
@@ -87,18 +91,23 @@ module _ (G : Setting) (x : List ℕ) (τ : ℕ) where
 
   -- v is the vector as a line of the list
   module _ (size : length x ≡ G.vectors * G.columns) (l : τ < G.vectors) {v : List ℕ} (v-is : v ≡ line_at x G.columns τ)
-      {r : ℕ} (r-is : r ≡ first (length v) (λ j. eqb (get_or v j 0) 0)) where
-    by_line : r ≡ first_nonzero G x τ
-    unfolding first_nonzero
-    by_line =
-        r-is ∙ rw (v-is, part_long x (τ * G.columns) G.columns (omega (arith, row_inside G.columns l)))
-        (first_cong G.columns _ _ (λ j h. ap (λ y. eqb y 0) (part_of x (τ * G.columns) G.columns j 0 h)))
+      {r : Bool} (r-is : r ≡ list_all (λ n. eqb n 0) v) where
+    long : length v ≡ G.columns
+    long = rw v-is (part_long x (τ * G.columns) G.columns (omega (arith, row_inside G.columns l)))
 
-    pub line_zero : r ≡ G.columns → vector_number G x τ ≡ 21
-    line_zero e = vector_zero (none_first.0 (sym by_line ∙ e))
+    at : (j : ℕ) → j < G.columns → get_or v j 0 ≡ challenge_at G x τ j
+    at j h = rw v-is (part_of x (τ * G.columns) G.columns j 0 h)
 
-    pub line_other : (r ≡ G.columns → ⊥) → vector_number G x τ ≡ 0
-    line_other d = vector_other.1 (λ z. d (by_line ∙ none_first.1 z))
+    pub line_zero : r ≡ true → vector_number G x τ ≡ 21
+    line_zero e =
+        let each : AllPass (λ n. eqb n 0) v = AllPass-from_list_all _ v (sym r-is ∙ e) in
+        vector_zero (λ j h. sym (at j h) ∙ eqb-true _ _ (All-get_or (λ n. eqb n 0 ≡ true) v j 0 (omega (arith, long)) each))
+
+    pub line_other : r ≡ false → vector_number G x τ ≡ 0
+    line_other e =
+        vector_other.1 (λ z. let each : AllPass (λ n. eqb n 0) v =
+        All-from_get_or (λ n. eqb n 0 ≡ true) v 0 (λ j h. eq-eqb _ _ (at j (omega (arith, long)) ∙ z j (omega (arith, long)))) in
+        absurd (false≢true (sym e ∙ r-is ∙ list_all-from_AllPass _ v each)))
 
 -- the first of n numbers that is not 0 makes the answer
 first_number : {n k c : ℕ} (f : ℕ → ℕ) → k < n → ((i : ℕ) → i < k → f i ≡ 0) → f k ≡ c → (c ≡ 0 → ⊥) → refusal c k ≡ first_refusal 0 n f

@@ -15,7 +15,7 @@
 --   row_ready, row_checked, row_refused, row_beyond   the answer of a row by the tests, and by whether there is one
 --   product_kept, balanced_kept   with u as its rows keep it, a row is balanced by u exactly when it is
 -- decoding a row
-use Rattle.std.specs.Prelude.{ℕ, zero, suc, ◌+◌, ◌-◌, ◌*◌, ◌%◌, ◌^◌, ◌≤◌, ◌<◌, ◌≡◌, refl, Bool, true, false, ◌&&◌, ◌⊎◌, List, [], ◌∷◌, ◌++◌, eqb, ltb, ◌*ℤ◌, take, drop}
+use Rattle.std.specs.Prelude.{ℕ, zero, suc, ◌+◌, ◌-◌, ◌*◌, ◌%◌, ◌^◌, ◌≤◌, ◌<◌, ◌≡◌, refl, Bool, true, false, ◌&&◌, ◌⊎◌, List, [], ◌∷◌, ◌++◌, eqb, ltb, ◌*ℤ◌, take, drop, Result, Ok, Err, is_ok}
 use Rattle.std.proofs.Math.Decide.{ℕ_discrete, dec_lt}
 use Rattle.std.proofs.Math.Nat.{mod-eq_of_lt}
 use Rattle.std.proofs.Common.{arith, ◌∙◌, ⊎_elim, length-append, length-drop, ext_get_or, get_or-append-add, get_or-drop, get_or-take}
@@ -48,12 +48,14 @@ use Rattle.ticket.specs.Laws.Limits.{clamped}
 use Rattle.ticket.proofs.Laws.Limits.ClampedSmall.{bias_columns_most}
 use Rattle.ticket.proofs.Laws.Limits.{lift_made}
 use Rattle.ticket.proofs.Laws.Passes.{passed_of}
+use Rattle.challenge.specs.declared.rows.Caught.{Caught}
+use Rattle.challenge.specs.declared.rows.Vector.{Vector}
 use Rattle.challenge.specs.declared.single.RowAnswer.{RowAnswer}
 use Rattle.challenge.specs.Rules.{challenge_at, list_reading, testing, product_b, claim_side, operand_side_by, balanced_by, balanced, listed, product_at, balanced_at, row_made, no_row, row_there, row_check}
 use Rattle.challenge.proofs.Laws.Checks.{rows_can}
 use Rattle.challenge.specs.Laws.Products.{WordVector, Widened, ProductReady, rows_times, offset_of}
 use Rattle.challenge.proofs.Laws.Products.{dot_small, offset_small}
-use Rattle.challenge.specs.Laws.Rows.{SidesReady, row_answer}
+use Rattle.challenge.specs.Laws.Rows.{outcome, VectorMade, SidesReady, row_answer}
 use Rattle.challenge.proofs.Laws.Rows.{sides_ready}
 use Rattle.challenge.specs.Laws.Sides.{RoomFor, RowDecoded}
 use Rattle.challenge.proofs.Laws.Sides.{sides_balanced}
@@ -86,32 +88,44 @@ module _ {G : Setting} {t : List ℕ} {half i m n : ℕ} (ready : DecodeRowReady
         claims = row_lifted ready.passed q-is r-is ready.half_is ready.row q'-is r'-is (omega (arith, ready.columns)) claims;
       }
 
-pub bias_inside : {G : Setting} {t y u : List ℕ} {i n : ℕ} → LineReady G t y u i → n ≡ bias_columns G → n ≤ length y
-bias_inside {G} ready n-is = omega (arith, ready.room.columns, bias_columns_most G)
+pub bias_inside : {G : Setting} {t y u : List ℕ} {i : ℕ} → LineReady G t y u i → bias_columns G ≤ length y
+bias_inside {G} ready = omega (arith, ready.room.columns, bias_columns_most G)
 
 module _ {G : Setting} {t y u : List ℕ} {i : ℕ} (ready : LineReady G t y u i) (words : WordVector u) {a w d : List ℕ} (decoded : RowDecoded G t i a w)
-    (d-is : d ≡ part_bytes (clamped G) t of_bias) {n : ℕ} (n-is : n ≡ bias_columns G) {right : ℕ} (right_is : right ≡ offset_of G.bound u) where
-  pub single_sides : G.inner ≤ length a → G.columns ≤ length w → SidesReady a w d y (take n y) u i right 0
+    (d-is : d ≡ part_bytes (clamped G) t of_bias) {shift : ℕ} {V : Vector} (vector : VectorMade G d y u shift 0 V) where
+  pub single_sides : G.inner ≤ length a → G.columns ≤ length w → SidesReady a w V i 0
   single_sides long-a long-w =
       let sizes = ready.passed.counts.sizes in
-      let long : length d ≡ record_bytes * (G.rows * n) = rw n-is (values_bias ready.passed d-is).0 in
-      sides_ready ready.vector words (omega (arith, ready.room.columns)) (omega (arith, ready.room.inner))
-      (λ k l. decoded.entries.small k (omega (arith, ready.room.inner))) ready.row (bias_inside ready n-is) (omega arith)
-      (rw right_is (offset_small G.bound (length u) (λ j. get_or u j 0)))
-      (omega (arith, ready.room.columns, ready.room.inner, bias_inside ready n-is))
+      let inside : bias_columns G ≤ length y = bias_inside ready in
+      sides_ready {n = bias_columns G} (rw vector.x_is ready.vector) (rw vector.u_is words) (rw vector.x_is (omega (arith, ready.room.columns)))
+      (rw vector.u_is (omega (arith, ready.room.inner)))
+      (rw vector.u_is (λ k l. decoded.entries.small k (omega (arith, ready.room.inner)))) ready.row (rw vector.x_is inside)
+      (rw vector.bias_is (omega (arith, (values_bias ready.passed d-is).0)))
+      (rw vector.right_is (offset_small G.bound (length u) (λ j. get_or u j 0))) (rw vector.x_is vector.z_is)
+      (rw (vector.x_is, vector.u_is) (omega (arith, ready.room.columns, ready.room.inner, inside)))
 
-  pub single_balanced : {left shift half : ℕ} → half ≡ half_range (clamped G) → shift ≡ half * (clamped G).scale + G.rounding
-      → left ≡ offset_of shift y → {c : Answer} → c ≡ row_answer left right a w d y (take n y) u 0 i 0
-      → eqb c.number 0 ≡ balanced_by G t y 0 (λ k. get_or u k 0) i
-  single_balanced half_is Shift-is left_is c-is =
+  pub single_balanced : {half : ℕ} → half ≡ half_range (clamped G) → shift ≡ half * (clamped G).scale + G.rounding
+      → (c : Result ℕ Caught) → outcome c ≡ row_answer a w V i 0 → is_ok c ≡ balanced_by G t y 0 (λ k. get_or u k 0) i
+  single_balanced half_is Shift-is c c-is =
       let passed = ready.passed in
-      rw (c-is, left_is, (lift_made passed.counts.sizes passed.numbers passed.fitted half_is Shift-is).0, right_is, n-is)
-      (number_zero _ _ i _ ∙ sides_balanced passed d-is y 0 y u (λ k. get_or u k 0) ready.room
+      ok_outcome c _ _ i _ c-is
+      ∙ rw (
+        vector.left_is,
+        (lift_made passed.counts.sizes passed.numbers passed.fitted half_is Shift-is).0,
+        vector.right_is,
+        vector.bias_is,
+        vector.z_is,
+        vector.x_is,
+        vector.u_is,
+      )
+      (sides_balanced passed d-is y 0 y u (λ k. get_or u k 0) ready.room
       (λ j l. ap (λ k. get_or y k 0) (omega arith)) (λ k l. refl) ready.row decoded)
     where
-      number_zero : (b : Bool) (τ i m : ℕ) → eqb (unless b (answer 12 τ i m) (answer 0 0 0 m)).number 0 ≡ b
-      number_zero true τ i m = refl
-      number_zero false τ i m = refl
+      ok_outcome : (c : Result ℕ Caught) (b : Bool) (τ i m : ℕ) → outcome c ≡ unless b (answer 12 τ i m) (answer 0 0 0 m) → is_ok c ≡ b
+      ok_outcome (Ok n) true τ i m e = refl
+      ok_outcome (Ok n) false τ i m e = absurd (omega (arith, ap (λ a. a.number) e))
+      ok_outcome (Err C) true τ i m e = absurd (omega (arith, ap (λ a. a.number) e))
+      ok_outcome (Err C) false τ i m e = refl
 
 listed_cong : (n : ℕ) (f g : ℕ → ℕ) → ((k : ℕ) → f k ≡ g k) → listed n f ≡ listed n g
 unfolding listed

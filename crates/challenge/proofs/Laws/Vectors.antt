@@ -8,6 +8,7 @@
 --   matrix_ready             the bytes of B hold its rows
 --   product_by               rows of B times a vector are its product with B
 --   product_made             u holds that
+--   vector_makes             what its rows have in common can be made
 --   rows_ready               the rows are ready once y and u are filled
 --   vector_answered          the answer of the rows, by what they are decoded to, is that of the vector
 use Rattle.std.specs.Prelude.{ℕ, ◌+◌, ◌*◌, ◌%◌, ◌≤◌, ◌<◌, ◌≡◌, refl, List, length, get_or}
@@ -23,7 +24,7 @@ use Rattle.algebra.proofs.Laws.IntegerSums.ResidueDot.{residue_dot}
 use Rattle.algebra.proofs.Laws.Positions.{row_inside}
 use Rattle.ticket.specs.declared.setting.Setting.{Setting}
 use Rattle.ticket.specs.declared.Answer.{Answer}
-use Rattle.ticket.specs.Rules.{most_rows, most_inner, most_columns, of_b, of_bias, entry_b}
+use Rattle.ticket.specs.Rules.{answer, most_rows, most_inner, most_columns, of_b, of_bias, bias_columns, entry_b}
 use Rattle.ticket.proofs.Laws.Decodes.ClaimsLess.{values_b, values_bias}
 use Rattle.ticket.specs.Laws.Layout.{part_bytes}
 use Rattle.ticket.specs.Laws.Limits.{clamped}
@@ -34,7 +35,8 @@ use Rattle.ticket.proofs.Laws.Scans.{scan_cong, scan_by_first}
 use Rattle.challenge.specs.Rules.{challenge_at, balanced, product_b, first_row, row_products, vector_products, verdict}
 use Rattle.challenge.specs.Laws.Products.{WordVector, Widened, ProductReady, rows_times, dot_of}
 use Rattle.challenge.proofs.Laws.Products.{dot_small}
-use Rattle.challenge.specs.Laws.Rows.{VectorRowsReady, row_steps}
+use Rattle.challenge.specs.declared.rows.Vector.{Vector}
+use Rattle.challenge.specs.Laws.Rows.{VectorMade, VectorRowsReady, row_steps}
 use Rattle.challenge.proofs.Laws.Rows.{line_inside}
 use Rattle.challenge.specs.Laws.Sides.{RoomFor, DecodedTo}
 use Rattle.challenge.proofs.Laws.Sides.{agrees_balanced}
@@ -44,12 +46,12 @@ pub vectors_answer : (G : Setting) (t x : List ℕ) → steps_answer (vector_ste
 unfolding verdict
 vectors_answer G t x = refl
 
-pub vector_ready : {G : Setting} {t x : List ℕ} {τ : ℕ} {a : Answer} → ListReady G t x → RunTo (vector_steps G t x) τ a → τ < G.vectors
-    → VectorReady G t x τ a.products
-vector_ready {G} {τ = τ} {a} ready run l =
+pub vector_ready : {G : Setting} {t x : List ℕ} {τ made : ℕ} → ListReady G t x → RunTo (vector_steps G t x) τ (answer 0 0 0 made)
+    → τ < G.vectors → VectorReady G t x τ made
+vector_ready {G} {τ = τ} {made = products} ready run l =
     let counts = ready.passed.counts in
     let most : vector_products G ≤ most_inner * most_columns + 2 * (most_rows * most_columns) + most_rows * most_inner = omega arith in
-    let made : a.products ≡ τ * vector_products G = ap (λ b. b.products) run.answer_is in
+    let made : products ≡ τ * vector_products G = ap (λ b. b.products) run.answer_is in
     record {
       there = record { list = ready; within = l };
       products_are = made;
@@ -128,34 +130,46 @@ module _ {G : Setting} {t x : List ℕ} {τ : ℕ} (there : VectorThere G t x τ
           rooms : RoomFor G y u
           rooms = record { columns = ap length vector_is ∙ vector_long; inner = made.long ∙ room.inner }
 
-          module _ {a w d : List ℕ} {shift : ℕ} (d-is : d ≡ part_bytes (clamped G) t of_bias) (decoded : DecodedTo G t a w shift)
-              {products : ℕ} (ready : VectorReady G t x τ products) where
-            pub rows_ready : VectorRowsReady G a w d y u shift (products + G.inner * G.columns)
-            rows_ready =
-                let passed = there.list.passed in
-                record {
-                  lift_is = decoded.lift_is;
-                  lift_below = decoded.lift_below;
-                  bound_below = omega (arith, passed.numbers.bound, modulus_above);
-                  few = rw (rooms.columns, rooms.inner) (omega (arith, ready.few));
-                  vector_x = vector_words;
-                  vector_u = product_vector;
-                  long_a = rw rooms.inner decoded.entries.long;
-                  long_claims = rw rooms.columns decoded.claims.long;
-                  bias_fits = omega (arith, rooms.columns, bias_columns_most G);
-                  long_bias = omega (arith, (values_bias passed d-is).0);
-                  small = rw rooms.inner decoded.entries.small;
-                }
+          module _ {a w d : List ℕ} {shift : ℕ} (d-is : d ≡ part_bytes (clamped G) t of_bias) (decoded : DecodedTo G t a w shift) where
+            abbrev passed : Passed G t
+            passed = there.list.passed
 
-            pub vector_answered : {r : Answer} → r ≡ steps_answer (row_steps G a w d y u τ (products + G.inner * G.columns))
-                → r ≡ step_answer (vector_steps G t x) τ
-            unfolding first_row
-            vector_answered {r} e =
-                e
-                ∙ scan_cong G.rows _ (balanced G t x τ) _ _
-                (λ i l. agrees_balanced there.list.passed decoded d-is x τ y u rooms vector_numbers product_made l)
-                ∙ scan_by_first G.rows (balanced G t x τ) _ _
-                ∙ rw (rooms.columns, rooms.inner, ready.products_are, counted)
-              where
-                counted : τ * vector_products G + G.inner * G.columns + G.rows * row_products G ≡ (τ + 1) * vector_products G
-                counted = omega arith
+            pub vector_makes : WordVector y × WordVector u × (bias_columns G ≤ length y) × (shift ≤ modulus) × (G.bound ≤ modulus)
+            vector_makes = (
+              vector_words,
+              product_vector,
+              omega (arith, rooms.columns, bias_columns_most G),
+              decoded.lift_below,
+              omega (arith, passed.numbers.bound, modulus_above),
+            )
+
+            module _ {V : Vector} (vector : VectorMade G d y u shift τ V) {products : ℕ} (ready : VectorReady G t x τ products) where
+              pub rows_ready : VectorRowsReady G a w V (products + G.inner * G.columns)
+              rows_ready =
+                  record {
+                    z_is = rw vector.x_is vector.z_is;
+                    left_is = rw (vector.x_is, ← decoded.lift_is) vector.left_is;
+                    right_is = rw vector.u_is vector.right_is;
+                    few = rw (vector.x_is, vector.u_is, rooms.columns, rooms.inner) (omega (arith, ready.few));
+                    vector_x = rw vector.x_is vector_words;
+                    vector_u = rw vector.u_is product_vector;
+                    long_a = rw (vector.u_is, rooms.inner) decoded.entries.long;
+                    long_claims = rw (vector.x_is, rooms.columns) decoded.claims.long;
+                    bias_fits = rw vector.x_is (omega (arith, rooms.columns, bias_columns_most G));
+                    long_bias = rw vector.bias_is (omega (arith, (values_bias passed d-is).0));
+                    small = rw (vector.u_is, rooms.inner) decoded.entries.small;
+                  }
+
+              pub vector_answered : {r : Answer} → r ≡ steps_answer (row_steps G a w V (products + G.inner * G.columns))
+                  → r ≡ step_answer (vector_steps G t x) τ
+              unfolding first_row
+              vector_answered {r} e =
+                  e
+                  ∙ rw (vector.x_is, vector.u_is, vector.bias_is, vector.number_is)
+                  (scan_cong G.rows _ (balanced G t x τ) _ _
+                  (λ i l. agrees_balanced passed decoded d-is x τ y u rooms vector_numbers product_made l)
+                  ∙ scan_by_first G.rows (balanced G t x τ) _ _
+                  ∙ rw (rooms.columns, rooms.inner, ready.products_are, counted))
+                where
+                  counted : τ * vector_products G + G.inner * G.columns + G.rows * row_products G ≡ (τ + 1) * vector_products G
+                  counted = omega arith

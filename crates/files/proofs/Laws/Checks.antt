@@ -5,13 +5,13 @@
 --   same_check        the check is the challenge check of any list that is as long as the setting asks exactly when the file is,
 --                     and is then the file's numbers
 --   as_call           files of the right lengths: the check is the challenge check of what they stand for
---   list_checked      the check by the list that the code makes
-use Rattle.std.specs.Prelude.{ℕ, ◌*◌, ◌≤◌, ◌≡◌, refl, List, eqb, length, take}
+--   list_checked      the check by the list in the file
+--   none_checked      the check by an empty list, where the file holds none
+use Rattle.std.specs.Prelude.{ℕ, ◌*◌, ◌≡◌, refl, List, [], eqb, length}
 use Rattle.std.proofs.Math.Decide.{ℕ_discrete}
-use Rattle.std.proofs.Common.{arith, ap, ◌∙◌, eq-eqb, ne_eqb}
+use Rattle.std.proofs.Common.{arith, ap, ◌∙◌, eq-eqb, ne_eqb, mul-le-mul}
 use Rattle.std.proofs.Math.Path.{sym}
 use Rattle.ticket.specs.declared.setting.Setting.{Setting}
-use Rattle.ticket.specs.declared.Answer.{Answer}
 use Rattle.ticket.specs.Rules.{unless, refusal, after, reading, Passes}
 use Rattle.ticket.proofs.Laws.Passes.{passed_of}
 use Rattle.ticket.proofs.Laws.Scans.{after_passed, after_refused}
@@ -19,8 +19,7 @@ use Rattle.challenge.specs.Rules.{challenge_check}
 use Rattle.challenge.proofs.Laws.Checks.{check_ticket, check_list}
 use Rattle.challenge.proofs.Laws.Lists.{other_length}
 use Rattle.files.specs.Rules.{setting_bytes, number_bytes, setting_of, numbers_of, file_check}
-use Rattle.files.specs.Laws.Numbers.{most_numbers, Counted, ChallengeWords}
-use Rattle.files.proofs.Laws.Numbers.{read_long, numbers_read}
+use Rattle.files.specs.Laws.Numbers.{ListOf, NoList}
 
 module _ (s t c : List ℕ) where
   abbrev G : Setting
@@ -59,15 +58,13 @@ module _ (s t c : List ℕ) where
     pub as_call : length c ≡ number_bytes * (G.vectors * G.columns) → file_check s t c ≡ challenge_check G t (numbers_of c)
     as_call e = sym (same_check (numbers_of c) (λ p. (λ z. e, λ z. refl)))
 
-    pub list_checked : {H : Setting} {words : List ℕ} {n : ℕ} {a : Answer} → H ≡ setting_of s
-        → ChallengeWords c words → Counted (length c) n
-        → a ≡ challenge_check H t (take n words) → a ≡ file_check s t c
-    list_checked {H} {words} {n} H-is read counted a-is =
-        let long : n ≡ length (take n words) = (read_long n read counted.within).1 in
-        a-is ∙ ap (λ G. challenge_check G t (take n words)) H-is
-        ∙ same_check (take n words) (λ p.
-        let few : G.vectors * G.columns ≤ most_numbers = (passed_of G t p).counts.challenges in
-        let exactly = counted.exactly (G.vectors * G.columns) few in (
-          λ e. exactly.0 (long ∙ e),
-          λ e. numbers_read n read counted.within (e ∙ ap (λ k. number_bytes * k) (sym (exactly.1 e))),
+    pub list_checked : (x : List ℕ) → ListOf c x → challenge_check G t x ≡ file_check s t c
+    list_checked x read = same_check x (λ p. (λ e. read.exact ∙ ap (λ n. number_bytes * n) e, λ e. read.numbers))
+
+    pub none_checked : NoList c → challenge_check G t [] ≡ file_check s t c
+    none_checked none =
+        same_check [] (λ p.
+        let counts = (passed_of G t p).counts in (
+          λ e. absurd (omega (arith, counts.sizes, mul-le-mul counts.sizes.vectors.0 counts.sizes.columns.0)),
+          λ e. absurd (none (G.vectors * G.columns) counts.challenges e),
         ))

@@ -1,14 +1,11 @@
--- The numbers of a challenge file, as the code reads them.
+-- The list in a challenge file, as the code reads it.
 --
---   read_long        the first n words are n
---   numbers_read     the first n words, where the file has the bytes of n numbers, are its numbers
-use Rattle.std.specs.Prelude.{ℕ, zero, suc, ◌+◌, ◌*◌, ◌≤◌, ◌<◌, ◌≡◌, List, [], ◌∷◌, length, get_or, take, drop}
-use Rattle.std.proofs.Common.{arith, sym, ◌∙◌, get_or-take, get_or-drop, ext_get_or}
+--   list_read        as many words as the file has numbers are its list
+use Rattle.std.specs.Prelude.{ℕ, zero, suc, ◌+◌, ◌*◌, ◌<◌, ◌≡◌, List, [], ◌∷◌, length, get_or, drop}
+use Rattle.std.proofs.Common.{arith, sym, ◌∙◌, get_or-drop, ext_get_or}
 use Rattle.std.proofs.Math.Path.{refl, ap}
 use Rattle.files.specs.Rules.{number_bytes, word_at, numbers_of}
-use Rattle.files.specs.Laws.Prefixes.{Leads}
-use Rattle.files.proofs.Laws.Prefixes.{leads}
-use Rattle.files.specs.Laws.Numbers.{most_numbers, ChallengeWords}
+use Rattle.files.specs.Laws.Numbers.{ListOf}
 
 -- four bytes further on
 later_word : (c : List ℕ) (i : ℕ) → word_at (drop number_bytes c) i ≡ word_at c (number_bytes + i)
@@ -34,13 +31,8 @@ numbers_are (suc n) (i ∷ j ∷ k ∷ l ∷ rest) e = let are = numbers_are n r
     each are (suc m) h =
         are m (omega arith) ∙ later_word (i ∷ j ∷ k ∷ l ∷ rest) (number_bytes * m) ∙ ap (word_at (i ∷ j ∷ k ∷ l ∷ rest)) (omega arith)
 
-pub read_long : {c words : List ℕ} (n : ℕ) → ChallengeWords c words → n ≤ most_numbers + 1 → Leads n words
-read_long {words = words} n read few = leads n words (omega (arith, read.long))
-
-pub numbers_read : {c words : List ℕ} (n : ℕ) → ChallengeWords c words → n ≤ most_numbers + 1 → length c ≡ number_bytes * n → take n words ≡ numbers_of c
-numbers_read {c} {words} n read few e =
-    let long : n ≡ length (take n words) = (read_long n read few).1 in
-    let are = numbers_are n c e in
-    ext_get_or 0 (take n words) (numbers_of c) (sym long ∙ sym are.0) (λ i l.
-    let l : i < n = omega (arith, long) in
-    get_or-take n words i 0 l ∙ read.each i (omega arith) ∙ sym (are.1 i l))
+pub list_read : (c list : List ℕ) → length c ≡ number_bytes * length list
+    → ((k : ℕ) → k < length list → get_or list k 0 ≡ word_at c (number_bytes * k)) → ListOf c list
+list_read c list e each =
+    let are = numbers_are (length list) c e in
+    record { exact = e; numbers = ext_get_or 0 list (numbers_of c) (sym are.0) (λ i l. each i l ∙ sym (are.1 i l)) }

@@ -1,8 +1,11 @@
-use Rattle.files.proofs.Laws.Checks.{setting_file_refused, list_checked}
+use Rattle.files.proofs.Laws.Checks.{setting_file_refused, list_checked, none_checked}
 use Rattle.files.proofs.check.Goals as goal
 
 pub returns-then-setting-ne-SETTING_BYTES : goal.returns-then-setting-ne-SETTING_BYTES
-returns-then-setting-ne-SETTING_BYTES c = search setting_file_refused
+returns-then-setting-ne-SETTING_BYTES c = rw (c.into.ensures, c.from.ensures) (search setting_file_refused)
 
-pub returns : goal.returns
-returns c = search list_checked
+pub returns-in-Some : goal.returns-in-Some
+returns-in-Some c = cc (list_checked _ _ _ c.if-setting-ne-SETTING_BYTES.false _ c.in-Some.ensures)
+
+pub returns-in-None : goal.returns-in-None
+returns-in-None c = cc (none_checked _ _ _ c.if-setting-ne-SETTING_BYTES.false c.in-None.ensures)

@@ -5,10 +5,9 @@
 --                       lifted
 --   lists_hold          so they do for a ticket that passes
 --   lifting_is          the lift that is added to them is the setting's, and has 31 bits
---   sums_ready          its sums can be compared
---   sums_verdict        and their answer is the verdict
---   check_refused, check_passed, check_compared   the whole check, by the answer of reading
-use Rattle.std.specs.Prelude.{◌≡◌, ℕ, ◌+◌, ◌*◌, ◌%◌, ◌^◌, ◌<◌, ◌≤◌, List, length, get_or, ℤ, pos, ◌+ℤ◌, ◌-ℤ◌, ◌≢◌, slice_index_or, unsigned_abs}
+--   sums_verdict        the answer of its sums is the verdict
+--   check_refused, check_passed, check_compared   the whole check, by what reading gives
+use Rattle.std.specs.Prelude.{◌≡◌, ℕ, ◌+◌, ◌*◌, ◌%◌, ◌^◌, ◌<◌, ◌≤◌, List, length, get_or, ℤ, pos, ◌+ℤ◌, ◌-ℤ◌, slice_index_or, unsigned_abs, Ok, Err}
 use Rattle.std.proofs.Math.Decide.{ℕ_discrete}
 use native.Mathlib.Omega.{arith}
 use Rattle.std.proofs.Math.Path.{sym, ap}
@@ -25,7 +24,8 @@ use Rattle.exact.specs.Laws.Matrices.{Turned}
 use Rattle.exact.proofs.Laws.Matrices.{turned_at, sums_exact}
 use Rattle.ticket.specs.declared.setting.Setting.{Setting}
 use Rattle.ticket.specs.declared.Answer.{Answer}
-use Rattle.ticket.specs.Rules.{answer, scan, reading, part, part_size, of_a, of_b, of_bias, of_quotients, of_remainders, half_range, entry_a, entry_b, entry_bias, claim, due}
+use Rattle.ticket.specs.declared.refusals.Refusal.{Refusal}
+use Rattle.ticket.specs.Rules.{answer, answered, scan, reading, part, part_size, of_a, of_b, of_bias, of_quotients, of_remainders, half_range, entry_a, entry_b, entry_bias, claim, due}
 use Rattle.ticket.specs.Laws.Decodes.{decoded_count, claim_count, narrow_at, lifted_at, LessList}
 use Rattle.ticket.proofs.Laws.Decodes.{SumClaims}
 use Rattle.ticket.proofs.Laws.Decodes.ClaimsLess.{claims_lifted, claims_less, entries_a, entries_b}
@@ -39,10 +39,11 @@ use Rattle.ticket.proofs.Laws.Limits.{lift_made, lift_small, clamped_same}
 use Rattle.ticket.specs.Laws.Passes.{Passed}
 use Rattle.ticket.proofs.Laws.Passes.{passed_of}
 use Rattle.ticket.specs.Laws.Runs.{steps_answer}
-use Rattle.ticket.proofs.Laws.Scans.{after_passed, after_refused, scan_cong}
+use Rattle.ticket.proofs.Laws.Answers.{after_err, after_ok, passed_zero}
+use Rattle.ticket.proofs.Laws.Scans.{scan_cong}
 use Rattle.full.specs.Rules.{holds, untrue, full_verdict, full_check}
 use Rattle.full.proofs.Laws.Same.{same_equal, same_other}
-use Rattle.full.specs.Laws.Sums.{line_sum, sum_steps, SumsReady}
+use Rattle.full.specs.Laws.Sums.{line_sum, sum_steps}
 use Rattle.full.specs.Laws.Claims.{Space}
 
 pub record ListsHold (G : Setting) (t : List ℕ) (A B : List ℤ) (claims : List ℕ) : Type 0 where
@@ -89,9 +90,6 @@ module _ {G : Setting} {t : List ℕ} (passed : Passed G t) where
       let is = lift_made passed.counts.sizes passed.numbers passed.fitted half_is made in (is.0, omega (arith, is.1, modulus_below))
 
   module _ {A B : List ℤ} {y : List ℕ} (holding : ListsHold G t A B y) where
-    pub sums_ready : {row lifting : ℕ} → row ≡ G.columns → lifting ≡ lift G → SumsReady G A B y row lifting
-    sums_ready row_is lifting_is = search
-
     -- the test of a sum is that of its claim
     test_alike : (i j : ℕ) → i < G.rows → j < G.columns → (sum_steps G A B y).holds (i * G.columns + j) ≡ holds G t (i * G.columns + j)
     unfolding holds
@@ -126,14 +124,14 @@ module _ {G : Setting} {t : List ℕ} (passed : Passed G t) where
 
 -- the whole check
 
-module _ (G : Setting) (t : List ℕ) {a : Answer} (a-is : a ≡ reading G t) where
-  pub check_refused : (a.number ≢ 0) → a ≡ full_check G t
+module _ (G : Setting) (t : List ℕ) where
+  pub check_refused : (R : Refusal) → answered (Err R) ≡ reading G t → answered (Err R) ≡ full_check G t
   unfolding full_check
-  check_refused d = a-is ∙ sym (after_refused _ _ (λ e. d (ap (λ b. b.number) a-is ∙ e)))
+  check_refused R is = after_err R is (full_verdict G t)
 
-  pub check_passed : a.number ≡ 0 → Passed G t
-  check_passed e = passed_of G t (sym (ap (λ b. b.number) a-is) ∙ e)
+  pub check_passed : answered (Ok tt) ≡ reading G t → Passed G t
+  check_passed is = passed_of G t (passed_zero is)
 
-  pub check_compared : a.number ≡ 0 → {b : Answer} → b ≡ full_verdict G t → b ≡ full_check G t
+  pub check_compared : answered (Ok tt) ≡ reading G t → (b : Answer) → b ≡ full_verdict G t → b ≡ full_check G t
   unfolding full_check
-  check_compared e b-is = b-is ∙ sym (after_passed _ _ (sym (ap (λ b. b.number) a-is) ∙ e))
+  check_compared is b b-is = after_ok is b-is

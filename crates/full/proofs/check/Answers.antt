@@ -1,11 +1,12 @@
+use Rattle.std.proofs.Common.{◌∙◌}
 use Rattle.full.proofs.Laws.Claims.{check_refused, check_passed, check_compared}
 use Rattle.full.proofs.check.Goals as goal
 
-pub returns-then-read-ne0 : goal.returns-then-read-ne0
-returns-then-read-ne0 c = search check_refused
-
 pub check_claims-requires : goal.check_claims-requires
-check_claims-requires c = search check_passed
+check_claims-requires c = check_passed _ _ c.in-Ok.ensures
 
-pub returns : goal.returns
-returns c = search check_compared
+pub returns-in-Ok : goal.returns-in-Ok
+returns-in-Ok c = check_compared _ _ c.in-Ok.ensures _ c.check_claims.ensures
+
+pub returns-in-Err : goal.returns-in-Err
+returns-in-Err c = c.from.ensures ∙ check_refused _ _ c.in-Err.refusal c.in-Err.ensures

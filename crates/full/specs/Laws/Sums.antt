@@ -3,10 +3,12 @@
 --   claimed_for x y l j    number j of the sums x, with l added, is number j of the claims y, modulo 2^32
 --   line_sum A B m i j     the product of row i of A and column j of B, m numbers each, modulo 2^32
 --   sum_steps G A B y      all sums of the rows A and the columns B, one after the other, by the claims y
---   SumsReady G A B y n l   these are as long as the setting needs them, n is the length of a row of sums, and l is the lift
---   SumRowReady G A B y n l i a   so it is for row i, a is the answer of the rows before, and no number of the row is large
---   RowCompared G A B y i a   a is the answer of the rows up to row i where they agree, else that of all rows
-use Rattle.std.specs.Prelude.{◌≡◌, ℕ, ◌+◌, ◌*◌, ◌/◌, ◌%◌, ◌^◌, ◌<◌, ◌≤◌, Bool, List, length, ℤ, ◌==◌, slice_index, refl}
+--   steps D                those of the lists D
+--   SumsReady D n          the lists are as long as the setting needs them, n is the length of a row of sums, and the lift is the setting's
+--   SumRowReady D n i k    so it is for row i, k products were made in the rows before, and no number of the row is large
+--   RowCompared D i r      r is the products of the rows up to row i, which agree, or else the answer of all rows
+--   compared r             the answer, by the products or the answer of the first untrue claim
+use Rattle.std.specs.Prelude.{◌≡◌, ℕ, ◌+◌, ◌*◌, ◌/◌, ◌%◌, ◌^◌, ◌<◌, ◌≤◌, Bool, List, length, ℤ, ◌==◌, slice_index, refl, Result, Ok, Err}
 use Rattle.std.proofs.Math.Nat.{suc-ne-zero}
 use Rattle.algebra.specs.Laws.Fills.{line_at}
 use Rattle.exact.specs.Rules.{dot_product}
@@ -14,7 +16,8 @@ use Rattle.ticket.specs.declared.setting.Setting.{Setting}
 use Rattle.ticket.specs.declared.Answer.{Answer}
 use Rattle.ticket.specs.Rules.{answer}
 use Rattle.ticket.specs.Laws.Limits.{Within, lift}
-use Rattle.ticket.specs.Laws.Runs.{Steps, RunTo, RunPast}
+use Rattle.ticket.specs.Laws.Runs.{Steps, steps_answer, RunTo}
+use Rattle.full.specs.declared.claims.Decoded.{Decoded}
 
 abbrev pub claimed_for : List ℕ → List ℕ → ℕ → ℕ → Bool
 claimed_for sums claims lift j = (slice_index sums j + lift) % 2 ^ 32 == slice_index claims j
@@ -33,23 +36,31 @@ sum_steps G A B claims =
       passed = λ c. refl;
     }
 
-pub record SumsReady (G : Setting) (A B : List ℤ) (claims : List ℕ) (row lifting : ℕ) : Type 0 where
-  pub limits : Within G
-  pub row_is : row ≡ G.columns
-  pub lifting_is : lifting ≡ lift G
-  pub rows_long : G.rows * G.inner ≤ length A
-  pub columns_long : G.columns * G.inner ≤ length B
-  pub claims_long : G.rows * G.columns ≤ length claims
+abbrev pub steps : Decoded → Steps
+steps D = sum_steps D.setting D.rows.now D.columns.now D.claims.now
 
-pub record SumRowReady (G : Setting) (A B : List ℤ) (claims : List ℕ) (row lifting i : ℕ) (before : Answer) : Type 0 where
-  pub sums : SumsReady G A B claims row lifting
-  pub run : RunTo (sum_steps G A B claims) (i * G.columns) before
-  pub row_ends : i * G.inner + G.inner ≤ length A
-  pub claims_end : i * G.columns + G.columns ≤ length claims
-  pub within : i * G.columns + G.columns ≤ G.rows * G.columns
-  pub few : i * G.columns + G.columns < 2 ^ 31
-  pub few_products : G.inner * (i * G.columns + G.columns) + G.inner < 2 ^ 31
-  pub made : before.products ≡ G.inner * (i * G.columns)
+pub record SumsReady (D : Decoded) (row : ℕ) : Type 0 where
+  pub limits : Within D.setting
+  pub row_is : row ≡ D.setting.columns
+  pub lift_is : D.lift ≡ lift D.setting
+  pub rows_long : D.setting.rows * D.setting.inner ≤ length D.rows.now
+  pub columns_long : D.setting.columns * D.setting.inner ≤ length D.columns.now
+  pub claims_long : D.setting.rows * D.setting.columns ≤ length D.claims.now
 
-abbrev pub RowCompared : Setting → List ℤ → List ℤ → List ℕ → ℕ → Answer → Type 0
-RowCompared G A B claims i after = RunPast (sum_steps G A B claims) (i * G.columns + G.columns) after
+pub record SumRowReady (D : Decoded) (row i before : ℕ) : Type 0 where
+  pub sums : SumsReady D row
+  pub run : RunTo (steps D) (i * D.setting.columns) (answer 0 0 0 before)
+  pub row_ends : i * D.setting.inner + D.setting.inner ≤ length D.rows.now
+  pub claims_end : i * D.setting.columns + D.setting.columns ≤ length D.claims.now
+  pub within : i * D.setting.columns + D.setting.columns ≤ D.setting.rows * D.setting.columns
+  pub few : i * D.setting.columns + D.setting.columns < 2 ^ 31
+  pub few_products : D.setting.inner * (i * D.setting.columns + D.setting.columns) + D.setting.inner < 2 ^ 31
+  pub made : before ≡ D.setting.inner * (i * D.setting.columns)
+
+abbrev pub RowCompared : Decoded → ℕ → Result ℕ Answer → Type 0
+RowCompared D i (Ok products) = RunTo (steps D) (i * D.setting.columns + D.setting.columns) (answer 0 0 0 products)
+RowCompared D i (Err untrue) = untrue ≡ steps_answer (steps D)
+
+abbrev pub compared : Result ℕ Answer → Answer
+compared (Ok products) = answer 0 0 0 products
+compared (Err untrue) = untrue

@@ -2,7 +2,6 @@
 --
 --   row_held, reading_held   the row and the tests of the state's list, as the code takes it
 --   begun_made         the state of a run that begins
---   put_list           a list with another in its middle
 --   lengthened_made    the state with a vector at the end of its list
 --   reading_passes, place_fits, vector_large, vector_zeros, vector_neither, vector_plain   the tests of the vector, as the code makes them
 --   addition_list, addition_vector, addition_last   the answer of the tests of an addition: by the state's list, by the vector, by the state
@@ -10,21 +9,18 @@
 --   Additional R v, addition_passed   what an addition that passes gives
 --   addition_sizes, vectors_few, unfinished_open, lengthened_sizes   the sizes, without the vector and with it; that the run is not finished
 --   held_long, vector_long, addition_fits   how long the lists are, and that there is room
-use Rattle.std.specs.Prelude.{ℕ, zero, suc, ◌+◌, ◌-◌, ◌*◌, ◌≤◌, ◌<◌, ◌≡◌, refl, Bool, true, false, cond, not, ◌&&◌, ◌||◌, leb, ltb, get_or, drop, replicate}
+use Rattle.std.specs.Prelude.{◌⊎◌, ℕ, zero, suc, ◌+◌, ◌-◌, ◌*◌, ◌≤◌, ◌<◌, ◌≡◌, refl, Bool, true, false, cond, not, leb, ltb, drop, replicate}
 use Rattle.std.proofs.Math.Decide.{dec_le}
 use Rattle.std.proofs.Math.Nat.{mul-le-mul}
-use Rattle.std.proofs.Common.{arith, ◌∙◌, eq-eqb, ne_eqb, le-leb, lt-ltb, le-ltb, ltb-true, length-append, length-drop, ext_get_or, length-take-le, drop-drop}
+use Rattle.std.proofs.Common.{arith, ◌∙◌, ⊎_elim, eq-eqb, ne_eqb, le-leb, lt-ltb, le-ltb, ltb-true, length-append, length-take-le}
 use Rattle.std.proofs.Math.Path.{sym, ap}
 use Rattle.std.proofs.lemmas.Bool.{false≢true, lt-leb}
-use mathlib.Core.List.{List, [], ◌++◌, append-nil}
+use mathlib.Core.List.{List, [], ◌++◌}
 use Rattle.std.proofs.Math.ListN.{length, take}
-use Rattle.std.proofs.lemmas.List.{length-replicate}
-use Rattle.std.proofs.Math.Seq.{drop-length}
-use Rattle.algebra.specs.Laws.Fills.{Filled}
 use Rattle.ticket.specs.declared.published.PlainSetting.{PlainSetting}
 use Rattle.ticket.specs.declared.setting.Setting.{Setting}
 use Rattle.ticket.specs.declared.Answer.{Answer}
-use Rattle.ticket.specs.Rules.{unless, refusal, after, most_inner, most_columns, most_vectors, plain, setting_number}
+use Rattle.ticket.specs.Rules.{unless, refusal, after, most_columns, most_vectors, plain, setting_number}
 use Rattle.ticket.proofs.Laws.Answers.{unless_zero, after_zero}
 use Rattle.ticket.specs.Laws.Limits.{Sizes}
 use Rattle.ticket.proofs.Laws.Limits.{both, limits_of}
@@ -33,14 +29,14 @@ use Rattle.ticket.proofs.Laws.Scans.{after_passed, after_first, after_second, af
 use Rattle.ticket.specs.Laws.Vectors.{vectored}
 use Rattle.ticket.proofs.Laws.Vectors.{vectored_number}
 use Rattle.challenge.specs.declared.single.RowAnswer.{RowAnswer}
-use Rattle.challenge.specs.Rules.{WellFormed, list_reading, listed, row_check}
+use Rattle.challenge.specs.Rules.{WellFormed, list_reading, row_check}
 use Rattle.challenge.specs.Laws.Lengthened.{placed_after}
 use Rattle.challenge.proofs.Laws.Lengthened.{lengthened_reading}
 use Rattle.challenge.proofs.Laws.Lists.{well_formed_is, list_place}
-use Rattle.challenge.proofs.Laws.Single.{listed_long, listed_at, filled_listed}
 use Rattle.run.specs.declared.Run.{Run}
-use Rattle.run.specs.Rules.{layer, most_numbers, held_list, is_finished, begun, one_more, lengthened, is_open, addition_reading, overwritten}
+use Rattle.run.specs.Rules.{layer, most_numbers, held_list, is_finished, zeros, begun, one_more, lengthened, is_open, addition_reading, overwritten}
 use Rattle.run.specs.Laws.Additions.{Additional}
+use Rattle.run.specs.Laws.States.{due}
 
 module _ (R : Run) (long : length R.list ≡ most_numbers) {G : Setting} (G-is : G ≡ layer R) {x : List ℕ}
     (x-is : x ≡ take (cond (leb R.length (length R.list)) R.length 0) R.list) where
@@ -48,48 +44,32 @@ module _ (R : Run) (long : length R.list ≡ most_numbers) {G : Setting} (G-is :
   unfolding held_list
   held_is = x-is ∙ rw long
 
-  pub row_held : (t : List ℕ) (τ i : ℕ) (u : List ℕ) {r : RowAnswer} → r ≡ row_check G t x τ i u → r ≡ row_check (layer R) t (held_list R) τ i u
-  row_held t τ i u r-is = r-is ∙ rw (G-is, held_is)
+  pub row_held : {τ : ℕ} → τ ≡ due R → (t : List ℕ) {r : RowAnswer} → r ≡ row_check G t x τ R.row R.u
+      → r ≡ row_check (layer R) t (held_list R) (due R) R.row R.u
+  row_held τ-is t r-is = r-is ∙ rw (G-is, held_is, τ-is)
 
   pub reading_held : {a : Answer} → a ≡ after (refusal (setting_number G) 0) (list_reading G x)
       → a ≡ after (refusal (setting_number (layer R)) 0) (list_reading (layer R) (held_list R))
   reading_held a-is = a-is ∙ rw (G-is, held_is)
-
--- lists of which the first numbers are those of another
-
-listed_self : (x : List ℕ) → listed (length x) (λ k. get_or x k 0) ≡ x
-listed_self x = ext_get_or 0 _ x (listed_long (length x) _) (λ k l. listed_at (length x) _ k (omega (arith, listed_long (length x) (λ i. get_or x i 0))))
-
-filled_by : (x : List ℕ) {before list : List ℕ} → length x ≤ length before → Filled 0 before (length x) (λ k. get_or x k 0) list
-    → list ≡ x ++ drop (length x) before
-filled_by x {before} fits filled = filled_listed fits filled ∙ ap (λ l. l ++ drop (length x) before) (listed_self x)
 
 drop_replicate : {A : Type 0} (n m : ℕ) (a : A) → drop n (replicate m a) ≡ replicate (m - n) a
 drop_replicate zero m a = let all : m ≡ m - 0 = omega arith in ap (λ k. replicate k a) all
 drop_replicate (suc n) zero a = let none : 0 ≡ 0 - suc n = omega arith in ap (λ k. replicate k a) none
 drop_replicate (suc n) (suc m) a = let less : m - n ≡ suc m - suc n = omega arith in drop_replicate n m a ∙ ap (λ k. replicate k a) less
 
-begun_list : (x : List ℕ) {list : List ℕ} → length x ≤ most_numbers → Filled 0 (replicate most_numbers 0) (length x) (λ k. get_or x k 0) list
-    → list ≡ x ++ replicate (most_numbers - length x) 0
-begun_list x few filled =
-    filled_by x (omega (arith, length-replicate {A = ℕ} most_numbers 0)) filled ∙ ap (λ l. x ++ l) (drop_replicate (length x) most_numbers 0)
-
-pub begun_made : (P : PlainSetting) (x : List ℕ) {list : List ℕ} → length x ≤ most_numbers
-    → Filled 0 (replicate most_numbers 0) (length x) (λ k. get_or x k 0) list
-    → ◌≡◌ {A = Run} (record { setting = P; list = list; length = length x; vector = 0; row = 0; u = replicate most_inner 0; caught = 0 }) (begun P x)
-begun_made P x few filled = rw (begun_list x few filled)
-
--- a list with another in its middle
-pub put_list : (x v : List ℕ) (start : ℕ) → start + length v ≤ length x → {part : List ℕ}
-    → Filled 0 (take (start + length v - start) (drop start x)) (length v) (λ k. get_or v k 0) part
-    → take start x ++ (part ++ drop (start + length v - start) (drop start x)) ≡ overwritten x start v
-put_list x v start fits filled =
-    let room = take (start + length v - start) (drop start x) in
-    let size : length room ≡ length v = length-take-le (start + length v - start) (drop start x) (omega (arith, length-drop start x)) ∙ omega arith in
-    let none : drop (length v) room ≡ [] = ap (λ n. drop n room) (sym size) ∙ drop-length room in
-    let whole : _ ≡ v = filled_by v (omega arith) filled ∙ ap (λ l. v ++ l) none ∙ append-nil v in
-    let end : start + (start + length v - start) ≡ start + length v = omega arith in
-    rw (whole, drop-drop (start + length v - start) start x, end)
+pub begun_made : (P : PlainSetting) (x : List ℕ) {list : List ℕ} {Z : Run} → list ≡ overwritten (replicate most_numbers 0) 0 x → Z ≡ zeros
+    → ◌≡◌ {A = Run} (record {
+      setting = P;
+      list = list;
+      length = length x;
+      vector = Z.vector;
+      row = Z.row;
+      u = Z.u;
+      caught = Z.caught;
+    }) (begun P x)
+begun_made P x e z =
+    let start : 0 + length x ≡ length x = omega arith in
+    rw (e, z, start, drop_replicate {A = ℕ} (length x) most_numbers 0)
 
 -- the tests of an addition
 
@@ -155,23 +135,12 @@ module _ (R : Run) (v : List ℕ) {a : Answer}
 
 -- whether a vector may be added
 
-open_test : (f : Bool) (s : ℕ) → (not f && ltb s most_vectors) ≡ not (f || leb most_vectors s)
-open_test true s = refl
-open_test false s =
-    elim (dec_le most_vectors s) [
-      | yes l ↦ rw (le-leb most_vectors s l) (le-ltb s most_vectors l)
-      | no l ↦ rw (lt-leb most_vectors s (omega arith)) (lt-ltb s most_vectors (omega arith))
-    ]
-
 module _ (R : Run) {f : Bool} (f-is : f ≡ is_finished R) where
-  open_is : {b : Bool} → (f || leb most_vectors R.setting.vectors) ≡ b → is_open R ≡ not b
-  open_is e = open_test (is_finished R) R.setting.vectors ∙ ap not ((rw f-is at e))
+  pub closed : (f ≡ true) ⊎ ((f ≡ false) × (most_vectors ≤ R.setting.vectors)) → refusal 22 0 ≡ unless (is_open R) (refusal 22 0) (refusal 0 0)
+  closed = ⊎_elim (λ e. rw (← f-is, e)) (λ h. rw (← f-is, h.0, le-ltb R.setting.vectors most_vectors h.1))
 
-  pub closed : (f || leb most_vectors R.setting.vectors) ≡ true → refusal 22 0 ≡ unless (is_open R) (refusal 22 0) (refusal 0 0)
-  closed e = sym (rw (open_is e))
-
-  pub opened : (f || leb most_vectors R.setting.vectors) ≡ false → refusal 0 0 ≡ unless (is_open R) (refusal 22 0) (refusal 0 0)
-  opened e = sym (rw (open_is e))
+  pub opened : f ≡ false → R.setting.vectors < most_vectors → refusal 0 0 ≡ unless (is_open R) (refusal 22 0) (refusal 0 0)
+  opened e l = rw (← f-is, e, lt-ltb R.setting.vectors most_vectors l)
 
 -- what an addition that passes gives
 

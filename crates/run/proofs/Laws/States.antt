@@ -5,20 +5,21 @@
 --   done_accepted, done_caught   those of an accepted ticket, and of a caught one
 --   unfinished, not_past   the next vector and row of a run that is not finished are there, and it is not caught
 --   standing_past, standing_caught, standing_under   the answer of a state by itself
+--   ready_here         its products can be counted
 --   tested_refused, tested_passed   an answer after tests
 --   testing_plain      the ordinary tests of a setting without a bias
 --   testing_passed     where the ordinary tests pass, setting, ticket and list do
 --   proceeding         the next vector and row are then there
---   proceeded_none, proceeded_caught, proceeded_within, proceeded_over   it by the four ways in which that may go
---   step_sizes, step_made   the answer of a step, by that state: it can be given, and is that of the rule
+--   proceeded_finished, proceeded_caught, proceeded_within, proceeded_over   it by the four ways in which that may go
+--   step_refused, step_sizes, step_made   the answer of a step, by that state: it can be given, and is that of the rule
 --   Worked R t R', worked_is   the state after the row is R', by the three ways in which a row ends
 --   worked_same, worked_count   setting and list stay, and one row more is done
-use Rattle.std.specs.Prelude.{ℕ, ◌+◌, ◌*◌, ◌≤◌, ◌<◌, ◌≡◌, Bool, ◌&&◌, ◌||◌, List, eqb, ltb}
+use Rattle.std.specs.Prelude.{ℕ, ◌+◌, ◌*◌, ◌≤◌, ◌<◌, ◌≡◌, Bool, ◌||◌, List, ltb}
 use Rattle.std.proofs.Math.Decide.{ℕ_discrete, dec_lt}
 use Rattle.std.proofs.Common.{mul-le-mul, ◌∙◌, true≢false, inl, ⊎_elim}
 use native.Mathlib.Omega.{arith}
 use Rattle.std.proofs.Math.Path.{refl, sym, ap}
-use Rattle.std.proofs.Math.Bool.{true, false, cond, not}
+use Rattle.std.proofs.Math.Bool.{true, false, cond}
 use Rattle.std.proofs.lemmas.Bool.{false≢true}
 use borrow.Author.Tests.{eq-eqb, ne_eqb, lt-ltb, le-ltb, leb-false}
 use Rattle.ticket.specs.declared.published.PlainSetting.{PlainSetting}
@@ -30,6 +31,7 @@ use Rattle.ticket.proofs.Laws.First.{true_or_false}
 use Rattle.ticket.proofs.Laws.Passes.{passed_of}
 use Rattle.challenge.specs.declared.single.RowAnswer.{RowAnswer}
 use Rattle.challenge.specs.Rules.{list_reading, testing, challenge_products, caught_products, accepted, caught, product_at, balanced_at, row_made, no_row, row_check}
+use Rattle.ticket.specs.Laws.Limits.{Sizes}
 use Rattle.challenge.proofs.Laws.Checks.{rows_can}
 use Rattle.challenge.proofs.Laws.Kinds.{plain_row}
 use Rattle.challenge.proofs.Laws.Single.{row_checked, row_refused, row_beyond}
@@ -37,7 +39,7 @@ use Rattle.challenge.specs.Laws.Vectors.{ListReady}
 use Rattle.run.specs.declared.Run.{Run}
 use Rattle.run.specs.declared.RunAnswer.{RunAnswer}
 use Rattle.run.specs.Rules.{layer, held_list, is_past, is_caught, is_finished, products_done, under_way, caught_mark, complete, refused, marked, standing, tested, placed, moved, worked, stepping}
-use Rattle.run.specs.Laws.States.{DoneReady, Answerable, due, proceeded}
+use Rattle.run.specs.Laws.States.{DoneReady, due, proceeded}
 
 -- products
 
@@ -111,6 +113,14 @@ module _ (R : Run) where
     unfolding standing
     standing_under e = rw (inside, e)
 
+  -- the products of a state that is not past its end can be counted, before its row and after it
+  pub ready_here : Sizes (layer R) → is_past R ≡ false → DoneReady R.setting R.vector R.row × DoneReady R.setting R.vector (R.row + 1)
+  ready_here sizes e =
+      let there = not_past e in (
+        record { sizes = sizes; vectors = omega arith; rows = omega arith },
+        record { sizes = sizes; vectors = omega arith; rows = omega arith },
+      )
+
   module _ {a A : Answer} (a-is : a ≡ A) where
     pub tested_refused : (b : RunAnswer) → (a.number ≡ 0 → ⊥) → {r : RunAnswer} → r ≡ marked R refused a → r ≡ tested R A b
     unfolding tested
@@ -130,56 +140,45 @@ testing_passed G t x a-is z =
 
 -- a step
 
-module _ (R : Run) (a : RowAnswer) where
-  pub proceeded_none : (eqb a.tested.number 0 && not (is_finished R)) ≡ false → R ≡ proceeded R a
+module _ (R : Run) (a : RowAnswer) {f : Bool} (f-is : f ≡ is_finished R) where
+  pub proceeded_finished : f ≡ true → R ≡ proceeded R a
   unfolding proceeded
-  proceeded_none e = sym (rw e)
+  proceeded_finished e = sym (rw (sym f-is ∙ e))
 
-  module _ (on : (eqb a.tested.number 0 && not (is_finished R)) ≡ true) where
+  module _ (going : f ≡ false) where
+    on : is_finished R ≡ false
+    on = sym f-is ∙ going
+
     -- the next vector and row are there
     pub proceeding : (R.vector < R.setting.vectors) × (R.row < R.setting.rows)
-    proceeding = not_past R (unfinished R (second (eqb a.tested.number 0) (is_finished R) on)).0
-      where
-        second : (b f : Bool) → (b && not f) ≡ true → f ≡ false
-        second true false e = refl
-        second true true e = absurd (false≢true e)
-        second false f e = absurd (false≢true e)
+    proceeding = not_past R (unfinished R on).0
 
-    pub proceeded_caught : a.balanced ≡ false → placed R R.u R.vector R.row 1 ≡ proceeded R a
+    pub proceeded_caught : a.balanced ≡ false → placed R a.u R.vector R.row 1 ≡ proceeded R a
     unfolding proceeded
     proceeded_caught e = sym (rw (on, e))
 
-    pub proceeded_within : a.balanced ≡ true → R.row + 1 < R.setting.rows → placed R R.u R.vector (R.row + 1) R.caught ≡ proceeded R a
+    pub proceeded_within : a.balanced ≡ true → R.row + 1 < R.setting.rows → placed R a.u R.vector (R.row + 1) R.caught ≡ proceeded R a
     unfolding proceeded moved
     proceeded_within e l = sym (rw (on, e, lt-ltb (R.row + 1) R.setting.rows l))
 
-    pub proceeded_over : a.balanced ≡ true → R.setting.rows ≤ R.row + 1 → placed R R.u (R.vector + 1) 0 R.caught ≡ proceeded R a
+    pub proceeded_over : a.balanced ≡ true → R.setting.rows ≤ R.row + 1 → placed R a.u (R.vector + 1) 0 R.caught ≡ proceeded R a
     unfolding proceeded moved
     proceeded_over e l = sym (rw (on, e, le-ltb (R.row + 1) R.setting.rows l))
 
-  proceeded_setting : (proceeded R a).setting ≡ R.setting
-  unfolding proceeded moved
-  proceeded_setting = by_tests (eqb a.tested.number 0 && not (is_finished R)) a.balanced (ltb (R.row + 1) R.setting.rows)
-    where
-      by_tests : (on b l : Bool) → (cond on (unless b (placed R R.u R.vector R.row 1)
-          (cond l (placed R R.u R.vector (R.row + 1) R.caught) (placed R R.u (R.vector + 1) 0 R.caught))) R).setting ≡ R.setting
-      by_tests true true true = refl
-      by_tests true true false = refl
-      by_tests true false l = refl
-      by_tests false b l = refl
-
--- u is not asked for whether a run is finished
-same_finished : (R : Run) (u : List ℕ) → is_finished (placed R u R.vector R.row R.caught) ≡ is_finished R
-unfolding is_past is_caught
-same_finished R u = refl
+proceeded_setting : (R : Run) (a : RowAnswer) → (proceeded R a).setting ≡ R.setting
+unfolding proceeded moved
+proceeded_setting R a = by_tests (is_finished R) a.balanced (ltb (R.row + 1) R.setting.rows)
+  where
+    by_tests : (f b l : Bool) → (cond f R (unless b (placed R a.u R.vector R.row 1)
+        (cond l (placed R a.u R.vector (R.row + 1) R.caught) (placed R a.u (R.vector + 1) 0 R.caught)))).setting ≡ R.setting
+    by_tests true b l = refl
+    by_tests false true true = refl
+    by_tests false true false = refl
+    by_tests false false l = refl
 
 module _ (R : Run) (t : List ℕ) {a : RowAnswer} (a-is : a ≡ row_check (layer R) t (held_list R) (due R) R.row R.u) where
   abbrev tests : Answer
   tests = testing (layer R) t (held_list R)
-
-  -- the state with the u of the row
-  abbrev with_u : Run
-  with_u = placed R a.u R.vector R.row R.caught
 
   refused_row : (tests.number ≡ 0 → ⊥) → a ≡ no_row tests R.u
   refused_row d = a-is ∙ sym (row_refused (layer R) t (held_list R) (due R) R.row refl R.u d refl)
@@ -194,41 +193,35 @@ module _ (R : Run) (t : List ℕ) {a : RowAnswer} (a-is : a ≡ row_check (layer
       let there = not_past R (unfinished R e).0 in
       (rw e at a-is) ∙ sym (row_checked (layer R) t (held_list R) R.vector R.row refl z there.0 there.1 R.u refl)
 
-  -- without a row the state stays
-  stays : a ≡ no_row tests R.u → (eqb tests.number 0 && not (is_finished R)) ≡ false → proceeded with_u a ≡ R
-  stays none e = rw none (sym (proceeded_none R (no_row tests R.u) e))
+  -- the tests pass exactly where the row says so
+  row_passes : tests.number ≡ 0 → a.tested.number ≡ 0
+  row_passes z =
+      ⊎_elim
+      (λ e. ap (λ b. b.tested.number) (finished_row e) ∙ z)
+      (λ e. ap (λ b. b.tested.number) (made_row z e))
+      (true_or_false (is_finished R))
 
-  goes_on : tests.number ≡ 0 → is_finished R ≡ false → proceeded with_u a ≡ worked R t
-  unfolding proceeded moved worked
-  goes_on z e =
-      let u = product_at (layer R) t (held_list R) R.vector R.row R.u in
-      rw (made_row z e, same_finished R u ∙ e)
-
-  pub step_sizes : Answerable (proceeded with_u a) a.tested
-  step_sizes z =
-      rw (proceeded_setting with_u a)
-      (elim (ℕ_discrete tests.number 0) [
-        | yes passed ↦ (testing_passed (layer R) t (held_list R) refl passed).passed.counts.sizes
-        | no d ↦ absurd (d (sym (ap (λ b. b.tested.number) (refused_row d)) ∙ z))
-      ])
-
-  pub step_made : {r : RunAnswer} → let S = proceeded with_u a in r ≡ tested S a.tested (standing S) → r ≡ stepping R t
-  step_made r-is =
+  row_passed : a.tested.number ≡ 0 → tests.number ≡ 0
+  row_passed y =
       elim (ℕ_discrete tests.number 0) [
-        | yes z ↦
-            ⊎_elim
-            (λ e. let none = finished_row e in
-            (rw (stays none (rw (eq-eqb tests.number 0 z, e)), none) at r-is) ∙ sym (rw e))
-            (λ e. let made : a.tested.number ≡ 0 = ap (λ b. b.tested.number) (made_row z e) in
-            let said : _ ≡ tested R tests (standing (worked R t)) =
-            tested_passed R refl z (r-is ∙ sym (tested_passed _ refl made refl) ∙ ap standing (goes_on z e)) in
-            said ∙ sym (rw e))
-            (true_or_false (is_finished R))
-        | no d ↦
-            let none = refused_row d in
-            tested_refused R refl _ d
-            ((rw (stays none (rw (ne_eqb tests.number 0 d)), none) at r-is) ∙ sym (tested_refused R refl (standing R) d refl))
+        | yes z ↦ z
+        | no d ↦ absurd (d (sym (ap (λ b. b.tested.number) (refused_row d)) ∙ y))
       ]
+
+  goes_on : tests.number ≡ 0 → proceeded R a ≡ cond (is_finished R) R (worked R t)
+  unfolding proceeded worked
+  goes_on z = ⊎_elim (λ e. rw e) (λ e. rw (made_row z e, e)) (true_or_false (is_finished R))
+
+  pub step_refused : (a.tested.number ≡ 0 → ⊥) → {r : RunAnswer} → r ≡ marked R refused a.tested → r ≡ stepping R t
+  step_refused d r-is =
+      let fails = λ (z : tests.number ≡ 0). d (row_passes z) in
+      tested_refused R (ap (λ b. b.tested) (refused_row fails)) _ d r-is
+
+  pub step_sizes : a.tested.number ≡ 0 → Sizes (layer (proceeded R a))
+  step_sizes y = rw (proceeded_setting R a) (testing_passed (layer R) t (held_list R) refl (row_passed y)).passed.counts.sizes
+
+  pub step_made : a.tested.number ≡ 0 → {r : RunAnswer} → r ≡ standing (proceeded R a) → r ≡ stepping R t
+  step_made y r-is = tested_passed R refl (row_passed y) (r-is ∙ ap standing (goes_on (row_passed y)))
 
 -- the three ways in which a row ends
 pub data Worked (R : Run) (t : List ℕ) : Run → Type 0 where

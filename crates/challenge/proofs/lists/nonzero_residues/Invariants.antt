@@ -1,13 +1,8 @@
--- The loop keeps in `all` whether the first k numbers are from 1 to p - 1.
-use Prim.Native.Nat.{◌-◌, ◌≤◌}
-use mathlib.Core.Path.{◌≡◌}
-use lib.ListN.{length}
+-- The loop keeps in `all` whether the numbers before this one are from 1 to p - 1.
+use Rattle.std.proofs.Common.{◌≡◌}
 use Rattle.ticket.specs.Laws.All.{all}
 use Rattle.challenge.specs.Laws.Lists.{nonzero_residue}
 use Rattle.challenge.proofs.lists.nonzero_residues.Given as goal
 
-abbrev pub invariant-loop-k : goal.invariant-loop-k
-invariant-loop-k l = (l.k ≤ length l.list) × (l.all ≡ all l.k (nonzero_residue l.list))
-
-abbrev pub decreases-loop-k : goal.decreases-loop-k
-decreases-loop-k l = length l.list - l.k
+abbrev pub invariant-loop-number : goal.invariant-loop-number
+invariant-loop-number l = l.all ≡ all l.number-index (nonzero_residue l.list)

@@ -11,7 +11,7 @@ use Rattle.challenge.proofs.products.dot_records.Goals as goal
 
 pub loop-r-init : goal.loop-r-init
 unfolding dot_of
-loop-r-init c = (omega arith, holds_none _ c.new-sum.ensures)
+loop-r-init c = holds_none _ c.new-sum.ensures
 
 pub loop-r-preserved : goal.loop-r-preserved
 unfolding dot_of
@@ -21,7 +21,7 @@ loop-r-preserved c =
     let of = c.args in
     let k = of.start + c.loop-r.r in
     rw (c.value-value.ensures, slice_long of.records.now k (inside), last_word of.records.now k) in
-    (omega arith, search (term_more, arith, term))
+    search (term_more, arith, term)
 
 pub returns : goal.returns
 unfolding dot_of

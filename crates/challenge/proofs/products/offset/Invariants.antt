@@ -1,11 +1,7 @@
--- The loop keeps: the sum is that of the first j numbers.
-use Prim.Native.Nat.{◌-◌, ◌≤◌}
-use lib.ListN.{length, get_or}
+-- The loop keeps: the sum is that of the numbers before this one.
+use Rattle.std.proofs.Common.{get_or}
 use Rattle.challenge.proofs.Laws.Products.{Reached}
 use Rattle.challenge.proofs.products.offset.Given as goal
 
-abbrev pub invariant-loop-j : goal.invariant-loop-j
-invariant-loop-j l = (l.j ≤ length l.vector) × Reached 0 (λ i. get_or l.vector i 0) l.j l.sum
-
-abbrev pub decreases-loop-j : goal.decreases-loop-j
-decreases-loop-j l = length l.vector - l.j
+abbrev pub invariant-loop-number : goal.invariant-loop-number
+invariant-loop-number l = Reached 0 (λ i. get_or l.vector i 0) l.number-index l.sum

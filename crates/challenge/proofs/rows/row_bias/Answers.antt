@@ -1,5 +1,6 @@
+use Rattle.std.proofs.Common.{rules}
 use Rattle.challenge.proofs.Laws.Products.{dot_none}
 use Rattle.challenge.proofs.rows.row_bias.Goals as goal
 
-pub returns-then-vector-eq0 : goal.returns-then-vector-eq0
-returns-then-vector-eq0 c = dot_none _ _ _ c.if-vector-eq0.true
+pub returns-then-is_empty : goal.returns-then-is_empty
+returns-then-is_empty c = dot_none _ _ _ (search rules)

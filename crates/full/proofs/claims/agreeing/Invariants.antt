@@ -1,10 +1,7 @@
 -- The loop keeps that the first j sums are what is claimed for them.
-use Rattle.std.proofs.Common.{◌≡◌, ℕ, ◌-◌, ◌<◌, ◌≤◌, true, length}
+use Rattle.std.proofs.Common.{◌≡◌, ℕ, ◌<◌, true}
 use Rattle.full.specs.Laws.Sums.{claimed_for}
 use Rattle.full.proofs.claims.agreeing.Given as goal
 
 abbrev pub invariant-loop-j : goal.invariant-loop-j
-invariant-loop-j l = (l.j ≤ length l.sums) × ((i : ℕ) → i < l.j → claimed_for l.sums l.claims l.lift i ≡ true)
-
-abbrev pub decreases-loop-j : goal.decreases-loop-j
-decreases-loop-j l = length l.sums - l.j
+invariant-loop-j l = (i : ℕ) → i < l.j → claimed_for l.sums l.claims l.lift i ≡ true

@@ -10,4 +10,6 @@ pub returns : goal.returns
 unfolding modulus
 returns c =
     let fits : FitsSigned w32 c.args.entry.0 = search rules in
-    c.reduce.ensures ∙ lifted_residue c.args.entry.0 fits (2 * modulus) (lit≤ tt) (lit≤ tt) modulus 2 modulus_positive refl
+    c.reduce.ensures
+    ∙ rw (c.from.ensures, c.from-2.ensures)
+    (lifted_residue c.args.entry.0 fits (2 * modulus) (lit≤ tt) (lit≤ tt) modulus 2 modulus_positive refl)

@@ -7,4 +7,4 @@ use Rattle.residue.proofs.Residue.subtract.Goals as goal
 
 pub returns : goal.returns
 unfolding modulus
-returns c = c.reduce.ensures ∙ residue_lifted modulus modulus_positive _ _
+returns c = c.reduce.ensures ∙ rw (c.from.ensures, c.from-2.ensures, c.from-3.ensures) (residue_lifted modulus modulus_positive _ _)

@@ -1,29 +1,18 @@
-use mathlib.Core.Path.{refl, sym, ap, ◌∙◌}
+use Rattle.std.proofs.Common.{refl, ap, ◌∙◌}
+use Rattle.ticket.proofs.Laws.Answers.{passed_zero, reason_numbered}
 use Rattle.run.specs.Rules.{standing}
-use Rattle.run.specs.Laws.Additions.{Additional}
 use Rattle.run.proofs.Laws.Additions.{addition_passed, lengthened_sizes}
 use Rattle.run.proofs.Laws.States.{tested_refused, tested_passed}
 use Rattle.run.proofs.Run.add.Goals as goal
 
-pub returns-then-read-ne0 : goal.returns-then-read-ne0
-returns-then-read-ne0 c =
-    let fails = c.if-read-ne0.true in
-    tested_refused _ c.read_addition-read.ensures _ fails (c.answered.ensures ∙ sym (tested_refused _ refl _ fails refl))
-
 pub lengthened-requires : goal.lengthened-requires
-lengthened-requires c =
-    let passed : let args = c.args in Additional args.self args.vector.now =
-    addition_passed _ _ (sym (ap (λ a. a.number) c.read_addition-read.ensures) ∙ c.if-read-ne0.false) in
-    passed
+lengthened-requires c = addition_passed _ _ (passed_zero c.in-Ok.ensures)
 
-pub answered-requires-2 : goal.answered-requires-2
-answered-requires-2 c =
-    let passed : let args = c.args in Additional args.self args.vector.now =
-    addition_passed _ _ (sym (ap (λ a. a.number) c.read_addition-read.ensures) ∙ c.if-read-ne0.false) in
-    λ z. rw c.lengthened.ensures (lengthened_sizes (passed))
+pub answered-requires : goal.answered-requires
+answered-requires c = rw c.lengthened.ensures (lengthened_sizes (addition_passed _ _ (passed_zero c.in-Ok.ensures)))
 
-pub returns : goal.returns
-returns c =
-    let passes = c.if-read-ne0.false in
-    tested_passed _ c.read_addition-read.ensures passes
-    (c.answered-2.ensures ∙ sym (tested_passed _ refl passes refl) ∙ ap standing c.lengthened.ensures)
+pub returns-in-Ok : goal.returns-in-Ok
+returns-in-Ok c = tested_passed _ c.in-Ok.ensures refl (c.answered.ensures ∙ ap standing c.lengthened.ensures)
+
+pub returns-in-Err : goal.returns-in-Err
+returns-in-Err c = tested_refused _ c.in-Err.ensures _ (reason_numbered _) (rw c.from.ensures at c.refused.ensures)

@@ -1,61 +1,39 @@
 use borrow.Author.Rules.{rules}
-use mathlib.Core.Path.{◌≡◌, ap, ◌∙◌}
-use Rattle.ticket.specs.Rules.{after, refusal, setting_number}
-use Rattle.ticket.specs.Laws.Vectors.{vectored}
-use Rattle.challenge.specs.Rules.{list_reading}
-use Rattle.challenge.specs.Laws.Lengthened.{placed_after}
-use lib.ListN.{length}
-use Rattle.run.specs.Rules.{held_list, layer, most_numbers}
+use native.Mathlib.Omega.{arith}
+use Rattle.std.proofs.Common.{refl, ap, ◌∙◌}
+use Rattle.std.proofs.lemmas.Result.{err_from_is_err_and}
+use Rattle.ticket.specs.Rules.{setting_number}
+use Rattle.ticket.proofs.Laws.Answers.{reason_numbered}
 use Rattle.run.proofs.Laws.Additions.{reading_held, reading_passes, addition_list, addition_vector, addition_last, closed, opened, vector_plain}
 use Rattle.run.proofs.Run.read_addition.Goals as goal
 
-pub returns-then-listed-ne0 : goal.returns-then-listed-ne0
-returns-then-listed-ne0 c =
-    let long : length c.args.self.list ≡ most_numbers = search rules in
-    let listed-is : let self = c.args.self in c.read_list-listed.result
-    ≡ after (refusal (setting_number (layer self)) 0) (list_reading (layer self) (held_list self)) =
-    reading_held c.args.self (long) c.plain-setting.ensures c.held.ensures c.read_list-listed.ensures in
-    addition_list _ _ (listed-is) c.if-listed-ne0.true
+pub returns-in_err-read_list : goal.returns-in_err-read_list
+returns-in_err-read_list c =
+    let p = err_from_is_err_and c.from_residual.result c.from_residual.ensures.1 in
+    let listed = reading_held c.args.self (search rules) c.from-setting.ensures c.held.ensures c.in_err-read_list.ensures in
+    rw (p.1, p.2) (addition_list _ _ listed (reason_numbered _))
 
-pub read_vector-tested-requires : goal.read_vector-tested-requires
-read_vector-tested-requires c =
-    let long : length c.args.self.list ≡ most_numbers = search rules in
-    let listed-is : let self = c.args.self in c.read_list-listed.result
-    ≡ after (refusal (setting_number (layer self)) 0) (list_reading (layer self) (held_list self)) =
-    reading_held c.args.self (long) c.plain-setting.ensures c.held.ensures c.read_list-listed.ensures in
-    ap setting_number c.plain-setting.ensures ∙ (reading_passes _ _ (listed-is) c.if-listed-ne0.false).0
+pub read_vector-requires : goal.read_vector-requires
+read_vector-requires c =
+    let listed = reading_held c.args.self (search rules) c.from-setting.ensures c.held.ensures c.in_ok-read_list.ensures in
+    ap setting_number c.from-setting.ensures ∙ (reading_passes _ _ listed refl).0
 
-pub returns-then-tested-ne0 : goal.returns-then-tested-ne0
-returns-then-tested-ne0 c =
-    let long : length c.args.self.list ≡ most_numbers = search rules in
-    let listed-is : let self = c.args.self in c.read_list-listed.result
-    ≡ after (refusal (setting_number (layer self)) 0) (list_reading (layer self) (held_list self)) =
-    reading_held c.args.self (long) c.plain-setting.ensures c.held.ensures c.read_list-listed.ensures in
-    let vector_is : let args = c.args in c.read_vector-tested.result
-    ≡ placed_after (layer args.self) (list_reading (vectored (layer args.self) 1) args.vector.now) =
-    vector_plain c.plain-setting.ensures _ c.read_vector-tested.ensures in
-    addition_vector _ _ (listed-is) c.if-listed-ne0.false (vector_is) c.if-tested-ne0.true
+pub returns-in_err-read_vector : goal.returns-in_err-read_vector
+returns-in_err-read_vector c =
+    let listed = reading_held c.args.self (search rules) c.from-setting.ensures c.held.ensures c.in_ok-read_list.ensures in
+    let vector = vector_plain c.from-setting.ensures _ c.in_err-read_vector.ensures in
+    let p = err_from_is_err_and c.from_residual-in_err-read_vector.result c.from_residual-in_err-read_vector.ensures.1 in
+    rw (p.1, p.2) (addition_vector _ _ listed refl vector (reason_numbered _))
 
-pub returns-then-is_finished-self : goal.returns-then-is_finished-self
-returns-then-is_finished-self c =
-    let long : length c.args.self.list ≡ most_numbers = search rules in
-    let listed-is : let self = c.args.self in c.read_list-listed.result
-    ≡ after (refusal (setting_number (layer self)) 0) (list_reading (layer self) (held_list self)) =
-    reading_held c.args.self (long) c.plain-setting.ensures c.held.ensures c.read_list-listed.ensures in
-    let vector_is : let args = c.args in c.read_vector-tested.result
-    ≡ placed_after (layer args.self) (list_reading (vectored (layer args.self) 1) args.vector.now) =
-    vector_plain c.plain-setting.ensures _ c.read_vector-tested.ensures in
-    c.refusal.ensures ∙ addition_last _ _ (listed-is) c.if-listed-ne0.false (vector_is) c.if-tested-ne0.false
-    (closed _ c.is_finished.ensures c.if-is_finished-self.true)
+pub returns-then-is_finished : goal.returns-then-is_finished
+returns-then-is_finished c =
+    let listed = reading_held c.args.self (search rules) c.from-setting.ensures c.held.ensures c.in_ok-read_list.ensures in
+    rw c.from.ensures
+    (addition_last _ _ listed refl (vector_plain c.from-setting.ensures _ c.in_ok-read_vector.ensures) refl
+    (closed _ c.is_finished.ensures c.then-is_finished.either))
 
 pub returns : goal.returns
 returns c =
-    let long : length c.args.self.list ≡ most_numbers = search rules in
-    let listed-is : let self = c.args.self in c.read_list-listed.result
-    ≡ after (refusal (setting_number (layer self)) 0) (list_reading (layer self) (held_list self)) =
-    reading_held c.args.self (long) c.plain-setting.ensures c.held.ensures c.read_list-listed.ensures in
-    let vector_is : let args = c.args in c.read_vector-tested.result
-    ≡ placed_after (layer args.self) (list_reading (vectored (layer args.self) 1) args.vector.now) =
-    vector_plain c.plain-setting.ensures _ c.read_vector-tested.ensures in
-    addition_last _ _ (listed-is) c.if-listed-ne0.false (vector_is) c.if-tested-ne0.false
-    (opened _ c.is_finished.ensures c.if-is_finished-self.false)
+    let listed = reading_held c.args.self (search rules) c.from-setting.ensures c.held.ensures c.in_ok-read_list.ensures in
+    let vector = vector_plain c.from-setting.ensures _ c.in_ok-read_vector.ensures in
+    addition_last _ _ listed refl vector refl (opened _ c.is_finished.ensures c.if-is_finished.false (omega arith))

@@ -2,4 +2,4 @@ use Rattle.run.proofs.Laws.Additions.{begun_made}
 use Rattle.run.proofs.lists.begun.Goals as goal
 
 pub returns : goal.returns
-returns c = begun_made _ c.args.list.now c.requires c.copy.ensures
+returns c = begun_made _ _ c.put.ensures c.zeros.ensures

@@ -1,40 +1,37 @@
-use Prim.Native.Nat.{◌+◌, ◌*◌, ◌≤◌}
 use native.Mathlib.Omega.{arith}
-use mathlib.Core.Path.{◌∙◌}
-use Rattle.ticket.specs.Rules.{most_columns, most_vectors}
-use Rattle.run.specs.Rules.{most_numbers}
+use Rattle.std.proofs.Common.{◌≡◌, ◌+◌, ap}
+use Rattle.ticket.specs.Rules.{reason_number}
 use Rattle.run.proofs.Laws.Additions.{place_fits, vector_large, vector_zeros, vector_neither}
+use Rattle.run.proofs.Laws.Reasons.{other_reason}
 use Rattle.run.proofs.lists.read_vector.Goals as goal
+use Rattle.run.proofs.lists.read_vector.Goals.{in-ListNumber, in-ZeroVector, in_default-reason}
 
-pub overflow_mul-setting : goal.overflow_mul-setting
-overflow_mul-setting c =
-    let fits : let of = c.args.setting in (of.vectors * of.columns ≤ most_numbers) × (of.vectors ≤ most_vectors)
-    × (c.read_list-tested.result.place ≤ most_columns + 1) =
-    place_fits _ c.requires _ c.with_vectors.ensures c.read_list-tested.ensures in
-    omega (arith, fits)
+pub returns-in_default : goal.returns-in_default
+returns-in_default c = vector_neither _ c.requires _ c.with_vectors.ensures c.in_default.ensures (λ e. omega arith) (λ e. omega arith)
 
-pub overflow_add-setting : goal.overflow_add-setting
-overflow_add-setting c =
-    let fits : let of = c.args.setting in (of.vectors * of.columns ≤ most_numbers) × (of.vectors ≤ most_vectors)
-    × (c.read_list-tested.result.place ≤ most_columns + 1) =
-    place_fits _ c.requires _ c.with_vectors.ensures c.read_list-tested.ensures in
-    omega (arith, fits)
+pub overflow_mul-before : goal.overflow_mul-before
+overflow_mul-before c = record { fits = omega (arith, place_fits _ c.requires _ c.with_vectors.ensures c.in-Err.ensures) }
 
-pub returns-then-tested-eq11 : goal.returns-then-tested-eq11
-returns-then-tested-eq11 c =
-    c.refusal.ensures
-    ∙ vector_large _ c.requires _ c.with_vectors.ensures c.read_list-tested.ensures c.if-tested-eq11.true
-
-pub overflow_add-setting-then-tested-eq21 : goal.overflow_add-setting-then-tested-eq21
-overflow_add-setting-then-tested-eq21 c =
-    let fits : let of = c.args.setting in (of.vectors * of.columns ≤ most_numbers) × (of.vectors ≤ most_vectors)
-    × (c.read_list-tested.result.place ≤ most_columns + 1) =
-    place_fits _ c.requires _ c.with_vectors.ensures c.read_list-tested.ensures in
-    omega (arith, fits)
-
-pub returns-then-tested-eq21 : goal.returns-then-tested-eq21
-returns-then-tested-eq21 c =
-    c.refusal-then-tested-eq21.ensures ∙ vector_zeros _ c.requires _ c.with_vectors.ensures c.read_list-tested.ensures c.if-tested-eq21.true
+pub overflow_add-result : goal.overflow_add-result
+overflow_add-result c =
+    let small = place_fits _ c.requires _ c.with_vectors.ensures c.in-Err.ensures in
+    elim c.match-refusal.branch [
+      | in-ListNumber w ↦ record { fits = omega (arith, small, w.before-is) }
+      | in-ZeroVector w ↦ record { fits = omega (arith, small, w.before-is) }
+      | in_default-reason w ↦ record { fits = omega (arith, small, w.before-is) }
+    ]
 
 pub returns : goal.returns
-returns c = vector_neither _ c.requires _ c.with_vectors.ensures c.read_list-tested.ensures c.if-tested-eq11.false c.if-tested-eq21.false
+returns c =
+    elim c.match-refusal.branch [
+      | in-ListNumber w ↦
+          rw (w.in-ListNumber.is, w.before-is)
+          (vector_large _ c.requires _ c.with_vectors.ensures c.in-Err.ensures (ap reason_number w.in-ListNumber.is))
+      | in-ZeroVector w ↦
+          rw (w.in-ZeroVector.is, w.before-is)
+          (vector_zeros _ c.requires _ c.with_vectors.ensures c.in-Err.ensures (ap reason_number w.in-ZeroVector.is))
+      | in_default-reason w ↦
+          let other = other_reason _ w.in_default-reason.not-ListNumber w.in_default-reason.not-ZeroVector in
+          let same : c.match-refusal.before + c.in-Err.refusal.place ≡ c.in-Err.refusal.place = omega arith in
+          rw same (vector_neither _ c.requires _ c.with_vectors.ensures c.in-Err.ensures other.0 other.1)
+    ]

@@ -1,9 +1,0 @@
-use Rattle.std.proofs.Common.{refl, arith}
-use Rattle.exact.proofs.Laws.Products.{summed_none, summed_joined}
-use Rattle.exact.proofs.block.Goals as goal
-
-pub loop-k-init : goal.loop-k-init
-loop-k-init c = (omega arith, refl, summed_none (omega arith))
-
-pub loop-k-preserved : goal.loop-k-preserved
-loop-k-preserved c = (omega arith, omega arith, summed_joined c.loop-k.invariant.2 c.products-sum.ensures refl refl)
