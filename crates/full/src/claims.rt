@@ -1,11 +1,10 @@
 // Test 16: every claim, row by row.
 ghost use Rattle.std.specs.Prelude.{◌≡◌, ◌^◌, ◌<◌, ◌≤◌, length};
-ghost use Rattle.ticket.specs.Rules.{first};
 ghost use Rattle.ticket.specs.Laws.All.{all};
 ghost use Rattle.ticket.specs.Laws.Passes.{Passed};
 ghost use Rattle.ticket.specs.Laws.Runs.{steps_answer};
 ghost use Rattle.full.specs.Rules.{full_verdict};
-ghost use Rattle.full.specs.Laws.Sums.{claimed_for, compared, steps, SumsReady, SumRowReady, RowCompared};
+ghost use Rattle.full.specs.Laws.Sums.{claimed_for, compared, steps, FirstUntrue, SumsReady, SumRowReady, RowCompared};
 ghost use Rattle.full.specs.Laws.Claims.{Space};
 
 use ticket::{Answer, PartNumber, Reason, Setting};
@@ -121,39 +120,35 @@ impl Decoded<'_> {
         let at = (row as usize) * inner;
         let start = (row as usize) * width;
         exact::row_sums(&self.rows[at..at + inner], self.columns, sums);
-        let count = agreeing(sums, &self.claims[start..start + width], self.lift);
-        let products = before + ((inner * count) as u32);
-        if count < width {
-            let place = (start + count) as u32;
-            let made = products + self.setting.inner;
-            return Err(Answer {
+        match first_untrue(sums, &self.claims[start..start + width], self.lift) {
+            None => Ok(before + ((inner * width) as u32)),
+            Some(j) => Err(Answer {
                 number: Reason::Claim.number(),
-                place,
+                place: (start + j) as u32,
                 row: 0,
-                products: made,
-            });
+                products: before + ((inner * (j + 1)) as u32),
+            }),
         }
-        Ok(products)
     }
 }
 
-// How many of the sums are what is claimed for them, up to the first that is not. All are tested without a branch first; one by one
-// only where that fails.
-fn agreeing(sums: &[u32], claims: &[u32], lift: u32) -> usize
+// The first of the sums that is not what is claimed for it. All are tested without a branch first; one by one only where that fails.
+fn first_untrue(sums: &[u32], claims: &[u32], lift: u32) -> Option<usize>
     requires { length sums.now ≤ length claims.now }
-    ensures { result ≡ first (length sums.now) (claimed_for sums.now claims.now lift) }
+    ensures { FirstUntrue (length sums.now) (claimed_for sums.now claims.now lift) result }
 {
     if all_agree(sums, claims, lift) {
-        return sums.len();
+        return None;
     }
     for (j, sum) in sums.iter().enumerate() {
         if sum.wrapping_add(lift) != claims[j] {
-            return j;
+            return Some(j);
         }
     }
-    sums.len()
+    None
 }
 
+// Whether all of them are.
 fn all_agree(sums: &[u32], claims: &[u32], lift: u32) -> bool
     requires { length sums.now ≤ length claims.now }
     ensures { result ≡ all (length sums.now) (claimed_for sums.now claims.now lift) }

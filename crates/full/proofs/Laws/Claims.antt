@@ -1,4 +1,4 @@
--- The claims of a ticket, by the lists that it is decoded to, and the whole check.
+-- The claims of a ticket, by the lists that it is decoded to.
 --
 --   small_space         so it is for a ticket whose operands and claims are few
 --   ListsHold G t A B y   A and B hold the entries of the operands, row by row and column by column, and y the claims for the sums,
@@ -6,8 +6,7 @@
 --   lists_hold          so they do for a ticket that passes
 --   lifting_is          the lift that is added to them is the setting's, and has 31 bits
 --   sums_verdict        the answer of its sums is the verdict
---   check_refused, check_passed, check_compared   the whole check, by what reading gives
-use Rattle.std.specs.Prelude.{◌≡◌, ℕ, ◌+◌, ◌*◌, ◌%◌, ◌^◌, ◌<◌, ◌≤◌, List, length, get_or, ℤ, pos, ◌+ℤ◌, ◌-ℤ◌, slice_index_or, unsigned_abs, Ok, Err}
+use Rattle.std.specs.Prelude.{◌≡◌, ℕ, ◌+◌, ◌*◌, ◌%◌, ◌^◌, ◌<◌, ◌≤◌, List, length, get_or, ℤ, pos, ◌+ℤ◌, ◌-ℤ◌, slice_index_or, unsigned_abs}
 use Rattle.std.proofs.Math.Decide.{ℕ_discrete}
 use native.Mathlib.Omega.{arith}
 use Rattle.std.proofs.Math.Path.{sym, ap}
@@ -23,9 +22,8 @@ use Rattle.algebra.proofs.Laws.Positions.{row_inside, by_rows}
 use Rattle.exact.specs.Laws.Matrices.{Turned}
 use Rattle.exact.proofs.Laws.Matrices.{turned_at, sums_exact}
 use Rattle.ticket.specs.declared.setting.Setting.{Setting}
-use Rattle.ticket.specs.declared.Answer.{Answer}
-use Rattle.ticket.specs.declared.refusals.Refusal.{Refusal}
-use Rattle.ticket.specs.Rules.{answer, answered, scan, reading, part, part_size, of_a, of_b, of_bias, of_quotients, of_remainders, half_range, entry_a, entry_b, entry_bias, claim, due}
+use Rattle.ticket.specs.Rules.{answer, scan, part, part_size, of_a, of_b, of_bias, of_quotients, of_remainders}
+use Rattle.ticket.specs.Rules.{half_range, entry_a, entry_b, entry_bias, claim, due}
 use Rattle.ticket.specs.Laws.Decodes.{decoded_count, claim_count, narrow_at, lifted_at, LessList}
 use Rattle.ticket.proofs.Laws.Decodes.{SumClaims}
 use Rattle.ticket.proofs.Laws.Decodes.ClaimsLess.{claims_lifted, claims_less, entries_a, entries_b}
@@ -37,11 +35,9 @@ use Rattle.ticket.proofs.Laws.Lifts.{lifted_decides}
 use Rattle.ticket.specs.Laws.Limits.{lift, clamped}
 use Rattle.ticket.proofs.Laws.Limits.{lift_made, lift_small, clamped_same}
 use Rattle.ticket.specs.Laws.Passes.{Passed}
-use Rattle.ticket.proofs.Laws.Passes.{passed_of}
 use Rattle.ticket.specs.Laws.Runs.{steps_answer}
-use Rattle.ticket.proofs.Laws.Answers.{after_err, after_ok, passed_zero}
 use Rattle.ticket.proofs.Laws.Scans.{scan_cong}
-use Rattle.full.specs.Rules.{holds, untrue, full_verdict, full_check}
+use Rattle.full.specs.Rules.{holds, untrue, full_verdict}
 use Rattle.full.proofs.Laws.Same.{same_equal, same_other}
 use Rattle.full.specs.Laws.Sums.{line_sum, sum_steps}
 use Rattle.full.specs.Laws.Claims.{Space}
@@ -121,17 +117,3 @@ module _ {G : Setting} {t : List ℕ} (passed : Passed G t) where
         let S = sum_steps G A B y in
         let alike = by_rows (λ c. S.holds c ≡ holds G t c) G.columns test_alike in
         scan_cong (G.rows * G.columns) _ _ (untrue G) _ alike ∙ ap (λ n. scan (G.rows * G.columns) (holds G t) (untrue G) (answer 0 0 0 n)) (omega arith)
-
--- the whole check
-
-module _ (G : Setting) (t : List ℕ) where
-  pub check_refused : (R : Refusal) → answered (Err R) ≡ reading G t → answered (Err R) ≡ full_check G t
-  unfolding full_check
-  check_refused R is = after_err R is (full_verdict G t)
-
-  pub check_passed : answered (Ok tt) ≡ reading G t → Passed G t
-  check_passed is = passed_of G t (passed_zero is)
-
-  pub check_compared : answered (Ok tt) ≡ reading G t → (b : Answer) → b ≡ full_verdict G t → b ≡ full_check G t
-  unfolding full_check
-  check_compared is b b-is = after_ok is b-is

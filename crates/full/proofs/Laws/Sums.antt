@@ -1,23 +1,21 @@
 -- Sums of rows and columns against the numbers that are claimed for them, row after row, as the code works through them.
 --
 --   sum_row_ready         so it is for each row, where it is so for all
---   few_agree             no more sums than that agree with their claims
---   row_untrue, row_true  the answer of the row, by how many agree up to the first that does not
-use Rattle.std.specs.Prelude.{◌≡◌, ℕ, ◌+◌, ◌*◌, ◌<◌, ◌≤◌, List, length, slice_index_or, refl, Ok, Err}
+--   row_untrue, row_true  the answer of the row, by its first untrue claim, if there is one
+use Rattle.std.specs.Prelude.{◌≡◌, ℕ, ◌+◌, ◌*◌, ◌<◌, ◌≤◌, List, length, slice_index_or, refl, None, Some, Ok, Err}
 use Rattle.std.proofs.Math.Nat.{suc-ne-zero}
-use Rattle.std.proofs.Common.{mul-le-mul_left, arith, ap, ◌∙◌}
+use Rattle.std.proofs.Common.{mul-le-mul_left, arith, sym, ap, ◌∙◌}
 use Rattle.std.proofs.Math.Arith.{digits_div, digits_mod}
 use Rattle.algebra.specs.Laws.Fills.{line_at}
 use Rattle.algebra.proofs.Laws.Fills.{part_of, part_long}
 use Rattle.algebra.proofs.Laws.Positions.{row_inside}
 use Rattle.exact.specs.Laws.Matrices.{RowSums}
-use Rattle.ticket.specs.Rules.{first, answer}
-use Rattle.ticket.proofs.Laws.First.{first_within}
+use Rattle.ticket.specs.Rules.{answer}
 use Rattle.ticket.proofs.Laws.Limits.ClampedSmall.{counts}
 use Rattle.ticket.specs.Laws.Runs.{RunTo}
 use Rattle.ticket.proofs.Laws.Runs.{run_several, run_breaks}
 use Rattle.full.specs.declared.claims.Decoded.{Decoded}
-use Rattle.full.specs.Laws.Sums.{claimed_for, line_sum, steps, SumsReady, SumRowReady, RowCompared}
+use Rattle.full.specs.Laws.Sums.{claimed_for, FirstUntrue, line_sum, steps, SumsReady, SumRowReady, RowCompared}
 
 pub sum_row_ready : {D : Decoded} {row i before : ℕ} → let n = D.setting.columns in
     SumsReady D row → i < D.setting.rows → RunTo (steps D) (i * n) (answer 0 0 0 before) → SumRowReady D row i before
@@ -52,26 +50,18 @@ module _ {D : Decoded} {old sums : List ℕ} {i before : ℕ}
       (rw row_long at (summed.each j)) (omega (arith, ready.sums.row_is)) column in
       rw (digits_div i l, digits_mod i l, sum, ready.sums.lift_is, part_of D.claims.now (i * n) n j 0 l)
 
-  module _ {count : ℕ} (count-is : count ≡ first (length sums) (claimed_for sums claims D.lift)) where
-    row_long : length sums ≡ n
-    row_long = summed.long ∙ ready.sums.row_is
+  row_long : length sums ≡ n
+  row_long = summed.long ∙ ready.sums.row_is
 
-    counted : count ≡ first n (claimed_for sums claims D.lift)
-    counted = rw row_long at count-is
+  pub row_untrue : {j products : ℕ} → FirstUntrue (length sums) (claimed_for sums claims D.lift) (Some j)
+      → products ≡ before + D.setting.inner * (j + 1) → RowCompared D i (Err (answer 16 (i * n + j) 0 products))
+  row_untrue {j} untrue e =
+      let first_is = sym (rw row_long at untrue.0) in
+      let l : j < n = omega (arith, untrue.1, row_long) in
+      (run_breaks ready.run ready.within _ alike first_is l (ap (answer 16 (i * n + j) 0) (omega (arith, ready.made)))).stopping (suc-ne-zero 15)
 
-    pub few_agree : (count ≤ n) × (D.setting.inner * count ≤ D.setting.inner * n)
-    few_agree =
-        let within : count ≤ n = omega (arith, counted, first_within n (claimed_for sums claims D.lift)) in
-        (within, mul-le-mul_left D.setting.inner within)
-
-    pub row_untrue : {products : ℕ} → count < n → products ≡ before + D.setting.inner * count + D.setting.inner
-        → RowCompared D i (Err (answer 16 (i * n + count) 0 products))
-    row_untrue l e =
-        let made = ap (answer 16 (i * n + count) 0) (omega (arith, ready.made)) in
-        (run_breaks ready.run ready.within _ alike counted l made).stopping (suc-ne-zero 15)
-
-    pub row_true : {products : ℕ} → n ≤ count → products ≡ before + D.setting.inner * count → RowCompared D i (Ok products)
-    row_true l e =
-        let all : count ≡ n = omega (arith, few_agree) in
-        let made = ap (answer 0 0 0) (omega (arith, ready.made, ap (λ k. D.setting.inner * k) all)) in
-        (run_several ready.run ready.within _ alike counted l made).passing refl
+  pub row_true : {products : ℕ} → FirstUntrue (length sums) (claimed_for sums claims D.lift) None → products ≡ before + D.setting.inner * n
+      → RowCompared D i (Ok products)
+  row_true all e =
+      let first_is = sym (rw row_long at all) in
+      (run_several ready.run ready.within _ alike first_is (omega arith) (ap (answer 0 0 0) (omega (arith, ready.made)))).passing refl

@@ -1,5 +1,5 @@
 use Rattle.std.proofs.Common.{◌∙◌}
-use Rattle.full.proofs.Laws.Claims.{check_refused, check_passed, check_compared}
+use Rattle.full.proofs.Laws.Checks.{check_refused, check_passed, check_compared}
 use Rattle.full.proofs.check.Goals as goal
 
 pub check_claims-requires : goal.check_claims-requires

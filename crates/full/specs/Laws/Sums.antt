@@ -1,6 +1,7 @@
 -- Sums of rows and columns against the numbers that are claimed for them, row after row, as the code works through them.
 --
 --   claimed_for x y l j    number j of the sums x, with l added, is number j of the claims y, modulo 2^32
+--   FirstUntrue n f r      r is the first place below n at which f fails, if there is one
 --   line_sum A B m i j     the product of row i of A and column j of B, m numbers each, modulo 2^32
 --   sum_steps G A B y      all sums of the rows A and the columns B, one after the other, by the claims y
 --   steps D                those of the lists D
@@ -8,19 +9,23 @@
 --   SumRowReady D n i k    so it is for row i, k products were made in the rows before, and no number of the row is large
 --   RowCompared D i r      r is the products of the rows up to row i, which agree, or else the answer of all rows
 --   compared r             the answer, by the products or the answer of the first untrue claim
-use Rattle.std.specs.Prelude.{◌≡◌, ℕ, ◌+◌, ◌*◌, ◌/◌, ◌%◌, ◌^◌, ◌<◌, ◌≤◌, Bool, List, length, ℤ, ◌==◌, slice_index, refl, Result, Ok, Err}
+use Rattle.std.specs.Prelude.{◌≡◌, ℕ, ◌+◌, ◌*◌, ◌/◌, ◌%◌, ◌^◌, ◌<◌, ◌≤◌, Bool, List, length, ℤ, ◌==◌, slice_index, refl, Option, None, Some, Result, Ok, Err}
 use Rattle.std.proofs.Math.Nat.{suc-ne-zero}
 use Rattle.algebra.specs.Laws.Fills.{line_at}
 use Rattle.exact.specs.Rules.{dot_product}
 use Rattle.ticket.specs.declared.setting.Setting.{Setting}
 use Rattle.ticket.specs.declared.Answer.{Answer}
-use Rattle.ticket.specs.Rules.{answer}
+use Rattle.ticket.specs.Rules.{answer, first}
 use Rattle.ticket.specs.Laws.Limits.{Within, lift}
 use Rattle.ticket.specs.Laws.Runs.{Steps, steps_answer, RunTo}
 use Rattle.full.specs.declared.claims.Decoded.{Decoded}
 
 abbrev pub claimed_for : List ℕ → List ℕ → ℕ → ℕ → Bool
 claimed_for sums claims lift j = (slice_index sums j + lift) % 2 ^ 32 == slice_index claims j
+
+abbrev pub FirstUntrue : ℕ → (ℕ → Bool) → Option ℕ → Type 0
+FirstUntrue n f None = first n f ≡ n
+FirstUntrue n f (Some j) = (first n f ≡ j) × (j < n)
 
 abbrev pub line_sum : List ℤ → List ℤ → ℕ → ℕ → ℕ → ℕ
 line_sum A B inner i j = dot_product (line_at A inner i) (line_at B inner j)
