@@ -44,7 +44,7 @@ pub extern "C" fn dikdumar_write_ticket(
     ensures { (result ≡ writing (plain setting) a.now b.now [] (length output.old))
         × (output.new ≡ output_after (plain setting) a.now b.now [] output.old) }
 {
-    write(setting, 0, 0, a, b, &a[..0], output)
+    write(setting, 0, 0, a, b, &[], output)
 }
 
 #[unsafe(no_mangle)]
