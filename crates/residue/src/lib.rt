@@ -29,14 +29,12 @@ impl Residue {
     // (p - 1)/2, the largest residue that stands for itself
     const LARGEST_ENTRY: u32 = (Residue::MODULUS - 1) / 2;
 
-    #[tactic(auto, unfolding(crate::specs::Rules::modulus, crate::specs::Rules::least_residue))]
     pub fn zero() -> Residue
         ensures { result.0 ≡ least_residue modulus (pos 0) }
     {
         Residue::ZERO
     }
 
-    #[tactic(auto, unfolding(crate::specs::Rules::modulus, crate::specs::Rules::least_residue))]
     pub fn one() -> Residue
         ensures { result.0 ≡ least_residue modulus (pos 1) }
     {
@@ -44,7 +42,6 @@ impl Residue {
     }
 
     // p, by its name in the rules: what is proved above of a call of this says nothing of its digits.
-    #[tactic(auto, unfolding(crate::specs::Rules::modulus))]
     pub fn modulus() -> u32
         ensures { result ≡ modulus }
     {
@@ -52,7 +49,6 @@ impl Residue {
     }
 
     // Whether this is a least residue, below p.
-    #[tactic(auto, unfolding(crate::specs::Rules::modulus))]
     pub fn is_least(self) -> bool
         ensures { result ≡ nat_lt self.0 modulus }
     {
@@ -60,7 +56,6 @@ impl Residue {
     }
 
     // The least residue of an unsigned number.
-    #[tactic(auto, unfolding(crate::specs::Rules::modulus, crate::specs::Rules::least_residue))]
     pub fn reduce(x: u64) -> Residue
         ensures { result.0 ≡ least_residue modulus (pos x) }
     {

@@ -8,7 +8,8 @@ use Rattle.ticket.proofs.records.first_refusal.Goals as goal
 pub returns-in-Err : goal.returns-in-Err
 returns-in-Err c = rw (c.from.ensures, c.from-in-loop-row.ensures, c.from-in-loop-column.ensures)
     (scanned_refused _ _ (position_of _ c.loop-column-test.true)
-    (c.in-Err.ensures ∙ rw (c.from.ensures, c.from-in-loop-row.ensures, c.from-in-loop-column.ensures)) c.loop-column.invariant _ _ (omega (arith, row_inside c.args.form.columns c.loop-row-test.true, c.loop-column-test.true)) (reason_numbered _))
+    (c.in-Err.ensures ∙ rw (c.from.ensures, c.from-in-loop-row.ensures, c.from-in-loop-column.ensures)) c.loop-column.invariant _ _
+    (omega (arith, row_inside c.args.form.columns c.loop-row-test.true, c.loop-column-test.true)) (reason_numbered _))
 
 pub returns : goal.returns
 returns c =

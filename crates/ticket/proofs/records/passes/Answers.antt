@@ -11,7 +11,8 @@ returns-then-not-row_passes c =
     let columns = c.args.form.columns in
     let rows = mul-le-mul_right columns c.loop-row-test.true in
     sym (all_fails _ (omega (arith, rows))
-    (sym (rows_passing c.args.records.now c.args.form c.loop-row.row refl c.loop-row.invariant (c.row_passes.ensures ∙ rw (c.from.ensures, c.from-columns.ensures)))
+    (sym (rows_passing c.args.records.now c.args.form c.loop-row.row refl c.loop-row.invariant
+    (c.row_passes.ensures ∙ rw (c.from.ensures, c.from-columns.ensures)))
     ∙ ap (λ b. true && b) c.if-not-row_passes.true))
 
 pub loop-row-preserved : goal.loop-row-preserved
