@@ -1,5 +1,5 @@
 // The challenge list: tests 10, 11 and 21.
-ghost use Rattle.std.specs.Prelude.{◌≡◌, ◌+◌, ◌*◌, ◌^◌, ◌≤◌, ◌<◌, eqb, length, get_or};
+ghost use Rattle.std.specs.Prelude.{◌≡◌, ◌+◌, ◌*◌, ◌^◌, ◌≤◌, ◌<◌, eqb, length};
 ghost use Rattle.std.specs.List.{list_all};
 ghost use Rattle.algebra.specs.Laws.Fills.{line_at};
 ghost use Rattle.ticket.specs.Rules.{answered, first_refusal};

@@ -49,7 +49,7 @@ pub(crate) fn dot(list: &[u32], vector: &[u64], offset: u64) -> Residue
     Residue::reduce(sum)
 }
 
-// The same of a list of any numbers.
+// The same of a list of any numbers. It is no twin of dot, since here the sum may be past 2^64, and one in two words takes longer.
 pub(crate) fn wide_dot(list: &[u32], vector: &[u64], offset: u64) -> Residue
     requires { DotReady list.now vector.now }
     ensures { result.0 ≡ dot_with offset list.now vector.now }

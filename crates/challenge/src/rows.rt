@@ -1,7 +1,6 @@
 // Test 12: every row, for every vector.
 ghost use Rattle.std.specs.Prelude.{◌≡◌, ◌+◌, ◌*◌, ◌≤◌, length};
 ghost use Rattle.residue.specs.Rules.{modulus};
-ghost use Rattle.algebra.specs.Laws.Fills.{line_at};
 ghost use Rattle.ticket.specs.Rules.{answer, bias_columns};
 ghost use Rattle.ticket.specs.Laws.Runs.{step_answer, steps_answer};
 ghost use Rattle.challenge.specs.Rules.{challenge_check, verdict};

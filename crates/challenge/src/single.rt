@@ -1,6 +1,6 @@
 // One row of the check by itself, for a check that proceeds row by row.
-ghost use Rattle.std.specs.Prelude.{◌≡◌, ◌+◌, ◌*◌, ◌%◌, ◌^◌, ◌≤◌, length, get_or};
-ghost use Rattle.algebra.specs.Laws.Fills.{Filled, line_at};
+ghost use Rattle.std.specs.Prelude.{◌≡◌, ◌*◌, ◌%◌, ◌^◌, ◌≤◌, length, get_or};
+ghost use Rattle.algebra.specs.Laws.Fills.{Filled};
 ghost use Rattle.challenge.specs.Rules.{balanced_by, no_row, product_at, row_made};
 ghost use Rattle.challenge.specs.Laws.Products.{WordVector};
 ghost use Rattle.challenge.specs.Laws.Sides.{RoomFor, RowDecoded};

@@ -64,7 +64,8 @@ module _ {G : Setting} {a w : List ℕ} {V : Vector} {products : ℕ} (ready : V
         rw (r-is, s-is)
         (sides_ready ready.vector_x ready.vector_u (omega (arith, line_long w V.x.now l ready.long_claims))
         (omega (arith, line_long a V.u.now l ready.long_a))
-        (λ k m. rw (part_of a (i * length V.u.now) (length V.u.now) k 0 m) (ready.small (i * length V.u.now + k) (omega (arith, row_inside (length V.u.now) l))))
+        (λ k m. rw (part_of a (i * length V.u.now) (length V.u.now) k 0 m)
+        (ready.small (i * length V.u.now + k) (omega (arith, row_inside (length V.u.now) l))))
         l ready.bias_fits ready.long_bias
         (rw ready.right_is (offset_small G.bound (length V.u.now) (λ j. get_or V.u.now j 0))) ready.z_is
         (omega (arith, counted, bias_long, row_inside (row_cost G V.x.now V.u.now) l, ready.few)))

@@ -10,8 +10,7 @@
 --   product_same, product_cong   so do the product, and u, made anew at row 0
 --   listed_long, listed_at, filled_listed   a list by its elements; a list of which the first elements are filled so
 --   line_matrix, product_first, product_later   the product can be made; u as the code makes it
---   words_kept         the numbers that a row takes are of 32 bits
---   line_ready, line_numbers   the vector, widened, is ready for its row, and its numbers are those of the list
+--   line_numbers       the numbers of the vector, widened, are those of the list
 --   row_ready, row_checked, row_refused, row_beyond   the answer of a row by the tests, and by whether there is one
 --   product_kept, balanced_kept   with u as its rows keep it, a row is balanced by u exactly when it is
 -- decoding a row
@@ -212,25 +211,8 @@ pub product_later : (G : Setting) (t x : List ℕ) (τ : ℕ) {i : ℕ} (u : Lis
 unfolding product_at
 product_later G t x τ {i} u d = sym (rw (ne_eqb i 0 d))
 
-pub words_kept : {u wide before : List ℕ} → Widened u before wide → length u ≡ length before → length before ≤ most_inner → WordVector wide
-words_kept {u} widened long short =
-    let filled = widened.filled in
-    record {
-      short = omega (arith, filled.long);
-      below = λ k l. let m : k < length u = omega (arith, filled.long) in rw (filled.each k m) (widened.words k m);
-    }
-
 module _ {G : Setting} {t x : List ℕ} {τ i : ℕ} (ready : RowReady G t x τ i) {before-y before-u : List ℕ} (room : RoomFor G before-y before-u)
     {z : List ℕ} (z-is : z ≡ line_at x (length before-y) τ) {y : List ℕ} (widened : Widened z before-y y) where
-  pub line_ready : {u : List ℕ} → length u ≡ length before-u → LineReady G t y u i
-  line_ready long =
-      record {
-        passed = ready.vector.list.passed;
-        row = ready.row;
-        room = record { columns = widened.filled.long ∙ room.columns; inner = long ∙ room.inner };
-        vector = vector_words ready.vector room z-is widened;
-      }
-
   pub line_numbers : (j : ℕ) → j < G.columns → get_or y j 0 ≡ challenge_at G x τ j
   line_numbers = vector_numbers ready.vector room z-is widened
 

@@ -2,8 +2,7 @@
 -- with B, named before-y and before-u as they were before they were filled.
 --
 --   vectors_answer           their answer is the verdict
---   vector_ready             each can, those before it having passed
---   line_within, line_fits   the vector is within the list, and is not too long for y
+--   line_within              the vector is within the list
 --   vector_numbers, vector_is, vector_words   y holds its numbers, and is it; they are of 32 bits
 --   matrix_ready             the bytes of B hold its rows
 --   product_by               rows of B times a vector are its product with B
@@ -12,7 +11,7 @@
 --   rows_ready               the rows are ready once y and u are filled
 --   vector_answered          the answer of the rows, by what they are decoded to, is that of the vector
 use Rattle.std.specs.Prelude.{ℕ, ◌+◌, ◌*◌, ◌%◌, ◌≤◌, ◌<◌, ◌≡◌, refl, List, length, get_or}
-use Rattle.std.proofs.Common.{mul-le-mul, sym, ap, ◌∙◌, ext_get_or}
+use Rattle.std.proofs.Common.{sym, ap, ◌∙◌, ext_get_or}
 use native.Mathlib.Omega.{arith}
 use Rattle.residue.specs.Rules.{modulus, least_residue}
 use Rattle.residue.proofs.Laws.Modulus.{modulus_above, modulus_below}
@@ -21,16 +20,15 @@ use Rattle.residue.proofs.Laws.Sums.{sum_cong}
 use Rattle.algebra.specs.Laws.Fills.{Filled, line_at}
 use Rattle.algebra.proofs.Laws.Fills.{part_of, part_long}
 use Rattle.algebra.proofs.Laws.IntegerSums.ResidueDot.{residue_dot}
-use Rattle.algebra.proofs.Laws.Positions.{row_inside}
 use Rattle.ticket.specs.declared.setting.Setting.{Setting}
 use Rattle.ticket.specs.declared.Answer.{Answer}
-use Rattle.ticket.specs.Rules.{answer, most_rows, most_inner, most_columns, of_b, of_bias, bias_columns, entry_b}
+use Rattle.ticket.specs.Rules.{of_b, of_bias, bias_columns, entry_b}
 use Rattle.ticket.proofs.Laws.Decodes.ClaimsLess.{values_b, values_bias}
 use Rattle.ticket.specs.Laws.Layout.{part_bytes}
 use Rattle.ticket.specs.Laws.Limits.{clamped}
 use Rattle.ticket.proofs.Laws.Limits.ClampedSmall.{bias_columns_most}
 use Rattle.ticket.specs.Laws.Passes.{Passed}
-use Rattle.ticket.specs.Laws.Runs.{steps_answer, step_answer, RunTo}
+use Rattle.ticket.specs.Laws.Runs.{steps_answer, step_answer}
 use Rattle.ticket.proofs.Laws.Scans.{scan_cong, scan_by_first}
 use Rattle.challenge.specs.Rules.{challenge_at, balanced, product_b, first_row, row_products, vector_products, verdict}
 use Rattle.challenge.specs.Laws.Products.{WordVector, Widened, ProductReady, rows_times, dot_of}
@@ -40,23 +38,11 @@ use Rattle.challenge.specs.Laws.Rows.{VectorMade, VectorRowsReady, row_steps}
 use Rattle.challenge.proofs.Laws.Rows.{line_inside}
 use Rattle.challenge.specs.Laws.Sides.{RoomFor, DecodedTo}
 use Rattle.challenge.proofs.Laws.Sides.{agrees_balanced}
-use Rattle.challenge.specs.Laws.Vectors.{ListReady, vector_steps, VectorThere, VectorReady}
+use Rattle.challenge.specs.Laws.Vectors.{vector_steps, VectorThere, VectorReady}
 
 pub vectors_answer : (G : Setting) (t x : List ℕ) → steps_answer (vector_steps G t x) ≡ verdict G t x
 unfolding verdict
 vectors_answer G t x = refl
-
-pub vector_ready : {G : Setting} {t x : List ℕ} {τ made : ℕ} → ListReady G t x → RunTo (vector_steps G t x) τ (answer 0 0 0 made)
-    → τ < G.vectors → VectorReady G t x τ made
-vector_ready {G} {τ = τ} {made = products} ready run l =
-    let counts = ready.passed.counts in
-    let most : vector_products G ≤ most_inner * most_columns + 2 * (most_rows * most_columns) + most_rows * most_inner = omega arith in
-    let made : products ≡ τ * vector_products G = ap (λ b. b.products) run.answer_is in
-    record {
-      there = record { list = ready; within = l };
-      products_are = made;
-      few = omega (arith, row_inside (vector_products G) l, mul-le-mul counts.sizes.vectors.1 most);
-    }
 
 pub product_by : {G : Setting} {t b : List ℕ} → Passed G t → b ≡ part_bytes (clamped G) t of_b → (x y : List ℕ) (τ : ℕ)
     → length y ≡ G.columns → ((j : ℕ) → j < G.columns → get_or y j 0 ≡ challenge_at G x τ j) → {k : ℕ} → k < G.inner → rows_times b y k ≡ product_b G t x τ k
@@ -86,9 +72,6 @@ module _ {G : Setting} {t x : List ℕ} {τ : ℕ} (there : VectorThere G t x τ
   module _ {before-y before-u : List ℕ} (room : RoomFor G before-y before-u) {z : List ℕ} (z-is : z ≡ line_at x (length before-y) τ) where
     line_is : z ≡ v
     line_is = z-is ∙ ap (λ n. line_at x n τ) room.columns
-
-    pub line_fits : length z ≤ length before-y
-    line_fits = omega (arith, ap length line_is, vector_long, room.columns)
 
     module _ {y : List ℕ} (widened : Widened z before-y y) where
       pub vector_is : y ≡ v
