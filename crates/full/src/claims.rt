@@ -4,7 +4,7 @@ ghost use Rattle.ticket.specs.Laws.All.{all};
 ghost use Rattle.ticket.specs.Laws.Passes.{Passed};
 ghost use Rattle.ticket.specs.Laws.Runs.{steps_answer};
 ghost use Rattle.full.specs.Rules.{full_verdict};
-ghost use Rattle.full.specs.Laws.Sums.{claimed_for, compared, steps, FirstUntrue, SumsReady, SumRowReady, RowCompared};
+ghost use Rattle.full.specs.Laws.Sums.{claimed_for, compared, steps, FirstFound, SumsReady, SumRowReady, RowCompared};
 ghost use Rattle.full.specs.Laws.Claims.{Space};
 
 use ticket::{Answer, PartNumber, Reason, Setting};
@@ -135,7 +135,7 @@ impl Decoded<'_> {
 // The first of the sums that is not what is claimed for it. All are tested without a branch first; one by one only where that fails.
 fn first_untrue(sums: &[u32], claims: &[u32], lift: u32) -> Option<usize>
     requires { length sums.now ≤ length claims.now }
-    ensures { FirstUntrue (length sums.now) (claimed_for sums.now claims.now lift) result }
+    ensures { FirstFound (length sums.now) (claimed_for sums.now claims.now lift) result }
 {
     if all_agree(sums, claims, lift) {
         return None;

@@ -15,7 +15,7 @@ use Rattle.ticket.proofs.Laws.Limits.ClampedSmall.{counts}
 use Rattle.ticket.specs.Laws.Runs.{RunTo}
 use Rattle.ticket.proofs.Laws.Runs.{run_several, run_breaks}
 use Rattle.full.specs.declared.claims.Decoded.{Decoded}
-use Rattle.full.specs.Laws.Sums.{claimed_for, FirstUntrue, line_sum, steps, SumsReady, SumRowReady, RowCompared}
+use Rattle.full.specs.Laws.Sums.{claimed_for, FirstFound, line_sum, steps, SumsReady, SumRowReady, RowCompared}
 
 pub sum_row_ready : {D : Decoded} {row i before : ℕ} → let n = D.setting.columns in
     SumsReady D row → i < D.setting.rows → RunTo (steps D) (i * n) (answer 0 0 0 before) → SumRowReady D row i before
@@ -53,14 +53,14 @@ module _ {D : Decoded} {old sums : List ℕ} {i before : ℕ}
   row_long : length sums ≡ n
   row_long = summed.long ∙ ready.sums.row_is
 
-  pub row_untrue : {j products : ℕ} → FirstUntrue (length sums) (claimed_for sums claims D.lift) (Some j)
+  pub row_untrue : {j products : ℕ} → FirstFound (length sums) (claimed_for sums claims D.lift) (Some j)
       → products ≡ before + D.setting.inner * (j + 1) → RowCompared D i (Err (answer 16 (i * n + j) 0 products))
   row_untrue {j} untrue e =
       let first_is = sym (rw row_long at untrue.0) in
       let l : j < n = omega (arith, untrue.1, row_long) in
       (run_breaks ready.run ready.within _ alike first_is l (ap (answer 16 (i * n + j) 0) (omega (arith, ready.made)))).stopping (suc-ne-zero 15)
 
-  pub row_true : {products : ℕ} → FirstUntrue (length sums) (claimed_for sums claims D.lift) None → products ≡ before + D.setting.inner * n
+  pub row_true : {products : ℕ} → FirstFound (length sums) (claimed_for sums claims D.lift) None → products ≡ before + D.setting.inner * n
       → RowCompared D i (Ok products)
   row_true all e =
       let first_is = sym (rw row_long at all) in

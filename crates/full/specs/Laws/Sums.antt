@@ -1,7 +1,7 @@
 -- Sums of rows and columns against the numbers that are claimed for them, row after row, as the code works through them.
 --
 --   claimed_for x y l j    number j of the sums x, with l added, is number j of the claims y, modulo 2^32
---   FirstUntrue n f r      r is the first place below n at which f fails, if there is one
+--   FirstFound n f r       r is the first place below n at which f fails, if there is one
 --   line_sum A B m i j     the product of row i of A and column j of B, m numbers each, modulo 2^32
 --   sum_steps G A B y      all sums of the rows A and the columns B, one after the other, by the claims y
 --   steps D                those of the lists D
@@ -23,9 +23,9 @@ use Rattle.full.specs.declared.claims.Decoded.{Decoded}
 abbrev pub claimed_for : List ℕ → List ℕ → ℕ → ℕ → Bool
 claimed_for sums claims lift j = (slice_index sums j + lift) % 2 ^ 32 == slice_index claims j
 
-abbrev pub FirstUntrue : ℕ → (ℕ → Bool) → Option ℕ → Type 0
-FirstUntrue n f None = first n f ≡ n
-FirstUntrue n f (Some j) = (first n f ≡ j) × (j < n)
+abbrev pub FirstFound : ℕ → (ℕ → Bool) → Option ℕ → Type 0
+FirstFound n f None = first n f ≡ n
+FirstFound n f (Some j) = (first n f ≡ j) × (j < n)
 
 abbrev pub line_sum : List ℤ → List ℤ → ℕ → ℕ → ℕ → ℕ
 line_sum A B inner i j = dot_product (line_at A inner i) (line_at B inner j)
