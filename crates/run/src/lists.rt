@@ -58,13 +58,13 @@ pub(crate) fn held(list: &[u32], count: u32) -> &[u32]
 
 impl Run {
     // The tests of an addition.
-    pub(crate) fn read_addition(self, vector: &[u32]) -> Result<(), Refusal>
-        ensures { answered result ≡ addition_reading self vector.now }
+    pub(crate) fn read_addition(&self, vector: &[u32]) -> Result<(), Refusal>
+        ensures { answered result ≡ addition_reading self.now vector.now }
     {
         let setting = Setting::from(self.setting);
         challenge::read_list(setting, held(&self.list, self.length))?;
         read_vector(setting, vector)?;
-        if self.is_finished() || Setting::MOST_VECTORS <= self.setting.vectors {
+        if !self.is_open() {
             return Err(Refusal::from(Reason::Addition));
         }
         Ok(())
