@@ -59,8 +59,8 @@ impl Run {
     }
 
     // The vector whose row is due. Where the run is finished none is: then it is one that is not there.
-    pub(crate) fn due(&self) -> u32
-        ensures { result ≡ due self.now }
+    pub(crate) fn due(self) -> u32
+        ensures { result ≡ due self }
     {
         if self.is_finished() {
             return self.setting.vectors;
@@ -72,19 +72,18 @@ impl Run {
     pub(crate) fn proceeded(mut self, made: RowAnswer) -> Run
         ensures { result ≡ proceeded self made }
     {
-        if self.is_finished() {
-            return self;
-        }
-        let u = made.u;
-        self.u = u;
-        if made.balanced {
-            self.row += 1;
-            if self.setting.rows <= self.row {
-                self.row = 0;
-                self.vector += 1;
+        if !self.is_finished() {
+            let u = made.u;
+            self.u = u;
+            if made.balanced {
+                self.row += 1;
+                if self.setting.rows <= self.row {
+                    self.row = 0;
+                    self.vector += 1;
+                }
+            } else {
+                self.caught = 1;
             }
-        } else {
-            self.caught = 1;
         }
         self
     }
