@@ -67,6 +67,7 @@ impl Run {
     pub fn step(self, ticket: &[u8]) -> RunAnswer
         ensures { result ≡ stepping self ticket.now }
     {
+        // copied out, since a list or u that is lent where it stands in the state takes longer
         let list = self.list;
         let before = self.u;
         let made = challenge::check_one_row(

@@ -9,10 +9,10 @@
 --   Additional R v, addition_passed   what an addition that passes gives
 --   addition_sizes, vectors_few, unfinished_open, lengthened_sizes   the sizes, without the vector and with it; that the run is not finished
 --   held_long, vector_long, addition_fits   how long the lists are, and that there is room
-use Rattle.std.specs.Prelude.{◌⊎◌, ℕ, zero, suc, ◌+◌, ◌-◌, ◌*◌, ◌≤◌, ◌<◌, ◌≡◌, refl, Bool, true, false, cond, not, leb, ltb, drop, replicate}
+use Rattle.std.specs.Prelude.{ℕ, zero, suc, ◌+◌, ◌-◌, ◌*◌, ◌≤◌, ◌<◌, ◌≡◌, refl, Bool, true, false, cond, not, leb, ltb, drop, replicate}
 use Rattle.std.proofs.Math.Decide.{dec_le}
 use Rattle.std.proofs.Math.Nat.{mul-le-mul}
-use Rattle.std.proofs.Common.{arith, ◌∙◌, ⊎_elim, eq-eqb, ne_eqb, le-leb, lt-ltb, le-ltb, ltb-true, length-append, length-take-le}
+use Rattle.std.proofs.Common.{arith, ◌∙◌, eq-eqb, ne_eqb, le-leb, ltb-true, length-append, length-take-le}
 use Rattle.std.proofs.Math.Path.{sym, ap}
 use Rattle.std.proofs.lemmas.Bool.{false≢true, lt-leb}
 use mathlib.Core.List.{List, [], ◌++◌}
