@@ -2,12 +2,12 @@
 ghost use Rattle.std.specs.Prelude.{◌≡◌};
 ghost use Rattle.ticket.specs.Rules.{answer, plain};
 ghost use Rattle.ticket.specs.Laws.Limits.{Sizes};
-ghost use Rattle.run.specs.Rules.{is_caught, is_finished, is_past, layer, marked, products_done, refused, standing};
+ghost use Rattle.run.specs.Rules.{is_caught, is_finished, is_open, is_past, layer, marked, products_done, refused, standing};
 ghost use Rattle.run.specs.Laws.States.{DoneReady, due, mark_of, proceeded};
 
 use crate::{Run, RunAnswer};
 use challenge::RowAnswer;
-use ticket::{Answer, PlainSetting, Reason};
+use ticket::{Answer, PlainSetting, Reason, Setting};
 
 // How a run stands, or that a call refused.
 #[derive(Clone, Copy)]
@@ -33,22 +33,29 @@ impl From<Standing> for u32 {
 
 impl Run {
     // Whether the run is complete: the next vector or row is beyond its end.
-    fn is_past(self) -> bool
-        ensures { result ≡ is_past self }
+    fn is_past(&self) -> bool
+        ensures { result ≡ is_past self.now }
     {
         self.setting.vectors <= self.vector || self.setting.rows <= self.row
     }
 
-    fn is_caught(self) -> bool
-        ensures { result ≡ is_caught self }
+    fn is_caught(&self) -> bool
+        ensures { result ≡ is_caught self.now }
     {
         0 < self.caught
     }
 
-    pub(crate) fn is_finished(self) -> bool
-        ensures { result ≡ is_finished self }
+    pub(crate) fn is_finished(&self) -> bool
+        ensures { result ≡ is_finished self.now }
     {
         self.is_past() || self.is_caught()
+    }
+
+    // Whether a vector may be added.
+    pub(crate) fn is_open(&self) -> bool
+        ensures { result ≡ is_open self.now }
+    {
+        !self.is_finished() && self.setting.vectors < Setting::MOST_VECTORS
     }
 
     // The vector whose row is due. Where the run is finished none is: then it is one that is not there.
@@ -65,19 +72,18 @@ impl Run {
     pub(crate) fn proceeded(mut self, made: RowAnswer) -> Run
         ensures { result ≡ proceeded self made }
     {
-        if self.is_finished() {
-            return self;
-        }
-        let u = made.u;
-        self.u = u;
-        if made.balanced {
-            self.row += 1;
-            if self.setting.rows <= self.row {
-                self.row = 0;
-                self.vector += 1;
+        if !self.is_finished() {
+            let u = made.u;
+            self.u = u;
+            if made.balanced {
+                self.row += 1;
+                if self.setting.rows <= self.row {
+                    self.row = 0;
+                    self.vector += 1;
+                }
+            } else {
+                self.caught = 1;
             }
-        } else {
-            self.caught = 1;
         }
         self
     }
@@ -107,9 +113,9 @@ impl Run {
     }
 
     // How a state stands, and its answer's numbers.
-    fn told(self) -> (Standing, Answer)
-        requires { Sizes (layer self) }
-        ensures { marked self (mark_of result.0) result.1 ≡ standing self }
+    fn told(&self) -> (Standing, Answer)
+        requires { Sizes (layer self.now) }
+        ensures { marked self.now (mark_of result.0) result.1 ≡ standing self.now }
     {
         let setting = self.setting;
         if self.is_past() {
@@ -132,8 +138,8 @@ impl Run {
     }
 
     // An answer about the next vector and row.
-    fn here(self, number: u32, products: u32) -> Answer
-        ensures { result ≡ answer number self.vector self.row products }
+    fn here(&self, number: u32, products: u32) -> Answer
+        ensures { result ≡ answer number self.now.vector self.now.row products }
     {
         Answer {
             number,

@@ -57,23 +57,26 @@ impl Run {
     pub fn begin(setting: PlainSetting, ticket: &[u8], list: &[u32]) -> RunAnswer
         ensures { result ≡ beginning setting ticket.now list.now }
     {
-        match challenge::read(Setting::from(setting), ticket, list) {
-            Ok(()) => lists::begun(setting, list).answered(),
-            Err(refusal) => lists::zeros().refused(Answer::from(refusal)),
+        if let Err(refusal) = challenge::read(Setting::from(setting), ticket, list) {
+            return lists::zeros().refused(Answer::from(refusal));
         }
+        lists::begun(setting, list).answered()
     }
 
     // The ordinary tests of the state and of the ticket lent, then one row, where the run is not finished.
     pub fn step(self, ticket: &[u8]) -> RunAnswer
         ensures { result ≡ stepping self ticket.now }
     {
+        // copied out, since a list or u that is lent where it stands in the state takes longer
+        let list = self.list;
+        let before = self.u;
         let made = challenge::check_one_row(
             Setting::from(self.setting),
             ticket,
-            lists::held(&self.list, self.length),
+            lists::held(&list, self.length),
             self.due(),
             self.row,
-            self.u,
+            before,
         );
         if made.tested.number != 0 {
             return self.refused(made.tested);
@@ -85,9 +88,9 @@ impl Run {
     pub fn add(self, vector: &[u32]) -> RunAnswer
         ensures { result ≡ adding self vector.now }
     {
-        match self.read_addition(vector) {
-            Ok(()) => self.lengthened(vector).answered(),
-            Err(refusal) => self.refused(Answer::from(refusal)),
+        if let Err(refusal) = self.read_addition(vector) {
+            return self.refused(Answer::from(refusal));
         }
+        self.lengthened(vector).answered()
     }
 }

@@ -58,13 +58,15 @@ pub(crate) fn held(list: &[u32], count: u32) -> &[u32]
 
 impl Run {
     // The tests of an addition.
-    pub(crate) fn read_addition(self, vector: &[u32]) -> Result<(), Refusal>
-        ensures { answered result ≡ addition_reading self vector.now }
+    pub(crate) fn read_addition(&self, vector: &[u32]) -> Result<(), Refusal>
+        ensures { answered result ≡ addition_reading self.now vector.now }
     {
         let setting = Setting::from(self.setting);
-        challenge::read_list(setting, held(&self.list, self.length))?;
+        // copied out, since it takes longer where it stands, here and below
+        let list = self.list;
+        challenge::read_list(setting, held(&list, self.length))?;
         read_vector(setting, vector)?;
-        if self.is_finished() || Setting::MOST_VECTORS <= self.setting.vectors {
+        if !self.is_open() {
             return Err(Refusal::from(Reason::Addition));
         }
         Ok(())
@@ -76,7 +78,9 @@ impl Run {
         ensures { result ≡ lengthened self vector.now }
     {
         let start = self.length as usize;
-        put(vector, &mut self.list, start);
+        let mut list = self.list;
+        put(vector, &mut list, start);
+        self.list = list;
         self.length = (start + vector.len()) as u32;
         self.setting.vectors += 1;
         self

@@ -5,14 +5,14 @@
 --   lengthened_made    the state with a vector at the end of its list
 --   reading_passes, place_fits, vector_large, vector_zeros, vector_neither, vector_plain   the tests of the vector, as the code makes them
 --   addition_list, addition_vector, addition_last   the answer of the tests of an addition: by the state's list, by the vector, by the state
---   closed, opened     whether a vector may be added, as the code tests it
+--   closed, opened     the last test, by whether a vector may be added
 --   Additional R v, addition_passed   what an addition that passes gives
 --   addition_sizes, vectors_few, unfinished_open, lengthened_sizes   the sizes, without the vector and with it; that the run is not finished
 --   held_long, vector_long, addition_fits   how long the lists are, and that there is room
-use Rattle.std.specs.Prelude.{◌⊎◌, ℕ, zero, suc, ◌+◌, ◌-◌, ◌*◌, ◌≤◌, ◌<◌, ◌≡◌, refl, Bool, true, false, cond, not, leb, ltb, drop, replicate}
+use Rattle.std.specs.Prelude.{ℕ, zero, suc, ◌+◌, ◌-◌, ◌*◌, ◌≤◌, ◌<◌, ◌≡◌, refl, Bool, true, false, cond, not, leb, ltb, drop, replicate}
 use Rattle.std.proofs.Math.Decide.{dec_le}
 use Rattle.std.proofs.Math.Nat.{mul-le-mul}
-use Rattle.std.proofs.Common.{arith, ◌∙◌, ⊎_elim, eq-eqb, ne_eqb, le-leb, lt-ltb, le-ltb, ltb-true, length-append, length-take-le}
+use Rattle.std.proofs.Common.{arith, ◌∙◌, eq-eqb, ne_eqb, le-leb, ltb-true, length-append, length-take-le}
 use Rattle.std.proofs.Math.Path.{sym, ap}
 use Rattle.std.proofs.lemmas.Bool.{false≢true, lt-leb}
 use mathlib.Core.List.{List, [], ◌++◌}
@@ -135,12 +135,12 @@ module _ (R : Run) (v : List ℕ) {a : Answer}
 
 -- whether a vector may be added
 
-module _ (R : Run) {f : Bool} (f-is : f ≡ is_finished R) where
-  pub closed : (f ≡ true) ⊎ ((f ≡ false) × (most_vectors ≤ R.setting.vectors)) → refusal 22 0 ≡ unless (is_open R) (refusal 22 0) (refusal 0 0)
-  closed = ⊎_elim (λ e. rw (← f-is, e)) (λ h. rw (← f-is, h.0, le-ltb R.setting.vectors most_vectors h.1))
+module _ (R : Run) where
+  pub closed : is_open R ≡ false → refusal 22 0 ≡ unless (is_open R) (refusal 22 0) (refusal 0 0)
+  closed e = sym (rw e)
 
-  pub opened : f ≡ false → R.setting.vectors < most_vectors → refusal 0 0 ≡ unless (is_open R) (refusal 22 0) (refusal 0 0)
-  opened e l = rw (← f-is, e, lt-ltb R.setting.vectors most_vectors l)
+  pub opened : is_open R ≡ true → refusal 0 0 ≡ unless (is_open R) (refusal 22 0) (refusal 0 0)
+  opened e = sym (rw e)
 
 -- what an addition that passes gives
 

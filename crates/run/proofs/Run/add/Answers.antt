@@ -6,13 +6,13 @@ use Rattle.run.proofs.Laws.States.{tested_refused, tested_passed}
 use Rattle.run.proofs.Run.add.Goals as goal
 
 pub lengthened-requires : goal.lengthened-requires
-lengthened-requires c = addition_passed _ _ (passed_zero c.in-Ok.ensures)
+lengthened-requires c = addition_passed _ _ (passed_zero c.in_default.ensures)
 
 pub answered-requires : goal.answered-requires
-answered-requires c = rw c.lengthened.ensures (lengthened_sizes (addition_passed _ _ (passed_zero c.in-Ok.ensures)))
+answered-requires c = rw c.lengthened.ensures (lengthened_sizes (addition_passed _ _ (passed_zero c.in_default.ensures)))
 
-pub returns-in-Ok : goal.returns-in-Ok
-returns-in-Ok c = tested_passed _ c.in-Ok.ensures refl (c.answered.ensures ∙ ap standing c.lengthened.ensures)
+pub returns : goal.returns
+returns c = tested_passed _ c.in_default.ensures refl (c.answered.ensures ∙ ap standing c.lengthened.ensures)
 
 pub returns-in-Err : goal.returns-in-Err
 returns-in-Err c = tested_refused _ c.in-Err.ensures _ (reason_numbered _) (rw c.from.ensures at c.refused.ensures)

@@ -7,15 +7,15 @@ use Rattle.run.proofs.Run.begin.Goals as goal
 
 pub begun-requires : goal.begun-requires
 begun-requires c =
-    let ready = testing_passed _ _ _ (testing_plain c.from.ensures _ _ c.in-Ok.ensures) refl in
+    let ready = testing_passed _ _ _ (testing_plain c.from.ensures _ _ c.in_default.ensures) refl in
     omega (arith, ready.list.size, ready.passed.counts)
 
 pub answered-requires : goal.answered-requires
 answered-requires c =
-    rw c.begun.ensures (testing_passed _ _ _ (testing_plain c.from.ensures _ _ c.in-Ok.ensures) refl).passed.counts.sizes
+    rw c.begun.ensures (testing_passed _ _ _ (testing_plain c.from.ensures _ _ c.in_default.ensures) refl).passed.counts.sizes
 
-pub returns-in-Ok : goal.returns-in-Ok
-returns-in-Ok c = tested_passed zeros (testing_plain c.from.ensures _ _ c.in-Ok.ensures) refl (c.answered.ensures ∙ ap standing c.begun.ensures)
+pub returns : goal.returns
+returns c = tested_passed zeros (testing_plain c.from.ensures _ _ c.in_default.ensures) refl (c.answered.ensures ∙ ap standing c.begun.ensures)
 
 pub returns-in-Err : goal.returns-in-Err
 returns-in-Err c = tested_refused zeros (testing_plain c.from.ensures _ _ c.in-Err.ensures) _ (reason_numbered _)
