@@ -64,7 +64,7 @@ impl Run {
     }
 
     // The ordinary tests of the state and of the ticket lent, then one row, where the run is not finished.
-    pub fn step(self, ticket: &[u8]) -> RunAnswer
+    pub fn step(mut self, ticket: &[u8]) -> RunAnswer
         ensures { result ≡ stepping self ticket.now }
     {
         // copied out, since a list or u that is lent where it stands in the state takes longer
@@ -81,16 +81,18 @@ impl Run {
         if made.tested.number != 0 {
             return self.refused(made.tested);
         }
-        self.proceeded(made).answered()
+        self = self.proceeded(made);
+        self.answered()
     }
 
     // The tests of the state and of a vector, which then joins the end of the list, where the run is not finished and has room for it.
-    pub fn add(self, vector: &[u32]) -> RunAnswer
+    pub fn add(mut self, vector: &[u32]) -> RunAnswer
         ensures { result ≡ adding self vector.now }
     {
         if let Err(refusal) = self.read_addition(vector) {
             return self.refused(Answer::from(refusal));
         }
-        self.lengthened(vector).answered()
+        self = self.lengthened(vector);
+        self.answered()
     }
 }

@@ -13,9 +13,9 @@ returns-then-made-ne0 c =
 pub answered-requires : goal.answered-requires
 answered-requires c =
     let row = row_held c.args.self (search rules) c.from.ensures c.held.ensures c.due.ensures _ c.check_one_row-made.ensures in
-    rw c.proceeded.ensures (step_sizes _ _ row c.if-made-ne0.false)
+    rw c.proceeded-self.ensures (step_sizes _ _ row c.if-made-ne0.false)
 
 pub returns : goal.returns
 returns c =
     let row = row_held c.args.self (search rules) c.from.ensures c.held.ensures c.due.ensures _ c.check_one_row-made.ensures in
-    step_made _ _ row c.if-made-ne0.false (c.answered.ensures ∙ ap standing c.proceeded.ensures)
+    step_made _ _ row c.if-made-ne0.false (c.answered.ensures ∙ ap standing c.proceeded-self.ensures)

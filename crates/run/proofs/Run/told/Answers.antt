@@ -22,7 +22,8 @@ products_done-products-requires-then-is_caught c =
 pub returns-then-is_caught : goal.returns-then-is_caught
 returns-then-is_caught c =
     let self = c.args.self.now in
-    ap (marked self caught_mark) (rw c.number.ensures at c.here.ensures ∙ ap (answer 12 self.vector self.row) (c.products_done-products-then-is_caught.ensures ∙ done_caught _ _ _))
+    ap (marked self caught_mark) (rw c.number.ensures at c.here.ensures
+    ∙ ap (answer 12 self.vector self.row) (c.products_done-products-then-is_caught.ensures ∙ done_caught _ _ _))
     ∙ sym (standing_caught self (sym c.is_past.ensures ∙ c.if-is_past.false) (sym c.is_caught.ensures ∙ c.if-is_caught.true))
 
 pub products_done-products-requires-2 : goal.products_done-products-requires-2
