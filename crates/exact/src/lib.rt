@@ -12,7 +12,7 @@ mod matrices;
 pub use matrices::{row_sums, turn};
 
 // Products are added up in blocks of two rows of 32, what is left in halves and a quarter of a row: loops of fixed lengths, which a
-// compiler lays out flat and makes many at a time. Lists of less than half a row go to what is last at once, which is quicker.
+// compiler lays out flat and makes many at a time.
 const ROW: usize = 32;
 
 const BLOCK: usize = 2 * ROW;
@@ -21,30 +21,20 @@ const HALF: usize = ROW / 2;
 
 const QUARTER: usize = ROW / 4;
 
-// The sum of the products of two lists, number by number, up to the end of the shorter one, modulo 2^32.
-#[tactic(auto, using(crate::proofs::Laws::Products::summed_all))]
+// The sum of the products of two lists, number by number, up to the end of the shorter one, modulo 2^32. A while, since a for over the
+// number of blocks, here and in rest, made the full check and the writer slower by a fifth at the largest sizes.
+#[tactic(auto, using(crate::proofs::Laws::Products::summing, crate::proofs::Laws::Products::summed_all))]
 pub fn dot(x: &[i16], y: &[i16]) -> u32
     ensures { result ≡ dot_product x.now y.now }
 {
     let count = x.len().min(y.len());
-    if count < HALF {
-        return last(x, y, 0, count, 0);
-    }
-    blocks(x, y, count)
-}
-
-// The same of the first count numbers of both, a block at a time.
-#[tactic(auto, using(crate::proofs::Laws::Products::summing))]
-fn blocks(x: &[i16], y: &[i16], count: usize) -> u32
-    requires { (count ≤ length x.now) × (count ≤ length y.now) }
-    ensures { Summed x.now y.now 0 0 count result }
-{
-    let whole = count / BLOCK;
     let mut sum = 0;
-    for k in 0..whole {
-        sum = block(x, y, k * BLOCK, sum);
+    let mut k = 0;
+    while BLOCK <= count - k {
+        sum = block(x, y, k, sum);
+        k += BLOCK;
     }
-    rest(x, y, whole * BLOCK, count % BLOCK, sum)
+    rest(x, y, k, count - k, sum)
 }
 
 // A sum with a block of products added, from number start of both lists on, modulo 2^32.
@@ -66,12 +56,13 @@ fn rest(x: &[i16], y: &[i16], start: usize, count: usize, before: u32) -> u32
     requires { (start + count ≤ length x.now) × (start + count ≤ length y.now) }
     ensures { Summed x.now y.now before start count result }
 {
-    let halves = count / HALF;
     let mut sum = before;
-    for k in 0..halves {
-        sum = products(x, y, start + k * HALF, HALF, sum);
+    let mut k = 0;
+    while HALF <= count - k {
+        sum = products(x, y, start + k, HALF, sum);
+        k += HALF;
     }
-    last(x, y, start + halves * HALF, count % HALF, sum)
+    last(x, y, start + k, count - k, sum)
 }
 
 // The same, a quarter of a row at once, where there are as many.
