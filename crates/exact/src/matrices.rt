@@ -36,11 +36,12 @@ pub fn row_sums(row: &[i16], columns: &[i16], sums: &mut [u32])
     ensures { RowSums row.now columns.now sums.old sums.new }
 {
     let inner = row.len();
-    for (j, sum) in sums.iter_mut().enumerate() {
-        let start = j * inner;
+    let mut start = 0;
+    for sum in sums.iter_mut() {
         if columns.len() - start < inner {
             return;
         }
         *sum = dot(row, &columns[start..start + inner]);
+        start += inner;
     }
 }
