@@ -105,7 +105,7 @@ impl<'a> Vector<'a> {
         let added = row_bias(self.bias, row, self.z);
         let product = dot(a, self.u, self.right + added);
         let made = products + (self.x.len() as u32) + (self.u.len() as u32) + (self.z.len() as u32);
-        if claims.0 != product.0 {
+        if claims != product {
             return Err(Caught {
                 vector: self.t,
                 row,
@@ -154,10 +154,8 @@ pub(crate) fn check_decoded(case: Case, room: &mut [u32]) -> Answer
     };
     match check_vectors(case, decoded, &mut x[..columns], &mut u[..inner]) {
         Ok(products) => Answer {
-            number: 0,
-            place: 0,
-            row: 0,
             products,
+            ..Answer::PASSED
         },
         Err(caught) => Answer::from(caught),
     }
