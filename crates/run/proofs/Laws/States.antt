@@ -11,7 +11,8 @@
 --   testing_passed     where the ordinary tests pass, setting, ticket and list do
 --   proceeding         the next vector and row are then there
 --   proceeded_finished, proceeded_caught, proceeded_within, proceeded_over   it by the four ways in which that may go
---   step_refused, step_sizes, step_made   the answer of a step, by that state: it can be given, and is that of the rule
+--   step_refused, step_sizes, step_passed   the answer of a step, by that state: it can be given, and is that of the rule
+--   step_made          the same in one, by the three cases of refused, finished and gone on
 --   Worked R t R', worked_is   the state after the row is R', by the three ways in which a row ends
 --   worked_same, worked_count   setting and list stay, and one row more is done
 use Rattle.std.specs.Prelude.{ℕ, ◌+◌, ◌*◌, ◌≤◌, ◌<◌, ◌≡◌, Bool, ◌||◌, List, ltb}
@@ -220,8 +221,16 @@ module _ (R : Run) (t : List ℕ) {a : RowAnswer} (a-is : a ≡ row_check (layer
   pub step_sizes : a.tested.number ≡ 0 → Sizes (layer (proceeded R a))
   step_sizes y = rw (proceeded_setting R a) (testing_passed (layer R) t (held_list R) refl (row_passed y)).passed.counts.sizes
 
-  pub step_made : a.tested.number ≡ 0 → {r : RunAnswer} → r ≡ standing (proceeded R a) → r ≡ stepping R t
-  step_made y r-is = tested_passed R refl (row_passed y) (r-is ∙ ap standing (goes_on (row_passed y)))
+  pub step_passed : a.tested.number ≡ 0 → {r : RunAnswer} → r ≡ standing (proceeded R a) → r ≡ stepping R t
+  step_passed y r-is = tested_passed R refl (row_passed y) (r-is ∙ ap standing (goes_on (row_passed y)))
+
+  pub step_made : {r : RunAnswer} → r ≡ tested R a.tested (standing (proceeded R a)) → r ≡ stepping R t
+  unfolding tested
+  step_made r-is =
+      elim (ℕ_discrete a.tested.number 0) [
+        | yes y ↦ step_passed y (r-is ∙ rw (eq-eqb a.tested.number 0 y))
+        | no d ↦ step_refused d (r-is ∙ rw (ne_eqb a.tested.number 0 d))
+      ]
 
 -- the three ways in which a row ends
 pub data Worked (R : Run) (t : List ℕ) : Run → Type 0 where
