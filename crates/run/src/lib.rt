@@ -29,11 +29,11 @@ pub struct Run {
     pub row: u32,
     // the product of B and vector t, from that vector's first row on
     pub u: [u32; INNER],
-    // above 0 where the run is caught in that vector and row
+    // above 0 where the run is caught in that vector and row; a number, since C hands it in
     pub caught: u32,
 }
 
-// What a call says of a run: the state that is handed back, a mark, and an answer.
+// What a call says of a run: the state that is handed back, a mark, which is a number since C reads it, and an answer.
 #[repr(C)]
 #[derive(Clone, Copy)]
 pub struct RunAnswer {
@@ -78,6 +78,7 @@ impl Run {
             self.row,
             before,
         );
+        // an answer, as the rule of a row has it
         if made.tested.number != 0 {
             return self.refused(made.tested);
         }
