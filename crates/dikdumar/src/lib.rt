@@ -31,7 +31,7 @@ pub extern "C" fn dikdumar_challenge_check(
 pub extern "C" fn dikdumar_full_check(setting: PlainSetting, ticket: &[u8]) -> Answer
     ensures { result ≡ full_check (plain setting) ticket.now }
 {
-    full_check(setting, 0, 0, ticket)
+    full_check(setting, None, ticket)
 }
 
 #[unsafe(no_mangle)]
@@ -44,7 +44,7 @@ pub extern "C" fn dikdumar_write_ticket(
     ensures { (result ≡ writing (plain setting) a.now b.now [] (length output.old))
         × (output.new ≡ output_after (plain setting) a.now b.now [] output.old) }
 {
-    write(setting, 0, 0, a, b, &[], output)
+    write(setting, None, a, b, &[], output)
 }
 
 #[unsafe(no_mangle)]
@@ -62,7 +62,7 @@ pub extern "C" fn dikdumar_bias_challenge_check(
 pub extern "C" fn dikdumar_bias_full_check(setting: BiasSetting, ticket: &[u8]) -> Answer
     ensures { result ≡ full_check (with_bias setting.setting setting.bias) ticket.now }
 {
-    full_check(setting.setting, 1, setting.bias, ticket)
+    full_check(setting.setting, Some(setting.bias), ticket)
 }
 
 #[unsafe(no_mangle)]
@@ -78,7 +78,7 @@ pub extern "C" fn dikdumar_write_bias_ticket(
         × (output.new ≡ output_after (with_bias setting.setting setting.bias) a.now b.now bias.now
         output.old) }
 {
-    write(setting.setting, 1, setting.bias, a, b, bias, output)
+    write(setting.setting, Some(setting.bias), a, b, bias, output)
 }
 
 #[unsafe(no_mangle)]
@@ -122,24 +122,23 @@ pub extern "C" fn dikdumar_run_add(state: Run, vector: &[u32]) -> RunAnswer
 
 // The full check of both kinds. The setting is made here, of the numbers as they came, and the slice anew, so that the compiler copies
 // neither on the way.
-fn full_check(setting: PlainSetting, biased: u32, bias: u32, ticket: &[u8]) -> Answer
-    ensures { result ≡ full_check (numbered setting biased bias) ticket.now }
+fn full_check(setting: PlainSetting, bias: Option<u32>, ticket: &[u8]) -> Answer
+    ensures { result ≡ full_check (numbered setting bias) ticket.now }
 {
-    full::check(setting.numbered(biased, bias), &ticket[0..])
+    full::check(setting.numbered(bias), &ticket[0..])
 }
 
 // The writer of both kinds; the setting is made here likewise.
 fn write(
     setting: PlainSetting,
-    biased: u32,
-    bound: u32,
+    bound: Option<u32>,
     a: &[i32],
     b: &[i32],
     bias: &[i32],
     output: &mut [u8],
 ) -> Answer
-    ensures { (result ≡ writing (numbered setting biased bound) a.now b.now bias.now (length output.old))
-        × (output.new ≡ output_after (numbered setting biased bound) a.now b.now bias.now output.old) }
+    ensures { (result ≡ writing (numbered setting bound) a.now b.now bias.now (length output.old))
+        × (output.new ≡ output_after (numbered setting bound) a.now b.now bias.now output.old) }
 {
-    writer::write(setting.numbered(biased, bound), a, b, bias, output)
+    writer::write(setting.numbered(bound), a, b, bias, output)
 }

@@ -14,7 +14,7 @@
 --   first_failed l        the number of the first test of l that fails, 0 where all hold
 --   within l h n         n is from l to h
 --   most_rows, most_inner, most_columns, most_vectors, most_scale, most_bound, most_width, most_bias_bound   the limits
---   numbered P b W, plain P, with_bias P W   the setting of the public numbers P, without a bias, and with one of bound W
+--   numbered P b, plain P, with_bias P W   the setting of the public numbers P, without a bias, and with one of bound W
 --   has_bias G            the setting has a bias
 --   bias_bound G          the bound W of the bias, 0 where there is none
 --   bias_columns G        the columns of the bias: as many as those of the claims, 0 where there is none
@@ -59,7 +59,8 @@
 --   dividend G S         what is divided by the scale for the sum S: S + o, with the rounding number o
 --   Untrue G t i j       the claim in row i, column j is untrue
 --   FalseIn G t j        the ticket is false in column j: some row's claim there is untrue
-use Rattle.std.specs.Prelude.{◌≡◌, ℕ, zero, suc, ◌+◌, ◌-◌, ◌*◌, ◌/◌, ◌%◌, ◌^◌, ◌<◌, Bool, false, cond, ◌&&◌, List, [], ◌∷◌, ◌++◌, length, take, ℤ, pos, ◌+ℤ◌, ◌-ℤ◌, ◌*ℤ◌, ◌==◌, nat_eq, nat_le, nat_lt, slice_index, slice_index_or, unsigned_abs, Result, Ok, Err}
+use Rattle.std.specs.Prelude.{◌≡◌, ℕ, zero, suc, ◌+◌, ◌-◌, ◌*◌, ◌/◌, ◌%◌, ◌^◌, ◌<◌, Bool, false, cond, ◌&&◌, List, [], ◌∷◌, ◌++◌, length, take, ℤ, pos, ◌+ℤ◌, ◌-ℤ◌, ◌*ℤ◌, ◌==◌, nat_eq, nat_le, nat_lt, slice_index, slice_index_or, unsigned_abs, Option, Some, None, is_some, Result, Ok, Err}
+use Rattle.std.specs.Option.{unwrap_or}
 use Rattle.residue.specs.Rules.{modulus, signed_entry}
 use Rattle.algebra.specs.Rules.{matrix_product, word}
 use Rattle.ticket.specs.declared.setting.Setting.{Setting}
@@ -166,8 +167,8 @@ most_width = 30
 abbrev pub most_bias_bound : ℕ
 most_bias_bound = 2 ^ 30
 
-abbrev pub numbered : PlainSetting → ℕ → ℕ → Setting
-numbered P biased W =
+abbrev pub numbered : PlainSetting → Option ℕ → Setting
+numbered P bias =
     record {
       rows = P.rows;
       inner = P.inner;
@@ -177,21 +178,20 @@ numbered P biased W =
       bound = P.bound;
       width = P.width;
       rounding = P.rounding;
-      biased = biased;
-      bias = W;
+      bias = bias;
     }
 
 abbrev pub plain : PlainSetting → Setting
-plain P = numbered P 0 0
+plain P = numbered P None
 
 abbrev pub with_bias : PlainSetting → ℕ → Setting
-with_bias P W = numbered P 1 W
+with_bias P W = numbered P (Some W)
 
 unfoldable pub has_bias : Setting → Bool
-has_bias G = nat_lt 0 G.biased
+has_bias G = is_some G.bias
 
 unfoldable pub bias_bound : Setting → ℕ
-bias_bound G = cond (has_bias G) G.bias 0
+bias_bound G = unwrap_or G.bias 0
 
 unfoldable pub bias_columns : Setting → ℕ
 bias_columns G = cond (has_bias G) G.columns 0

@@ -1,6 +1,7 @@
 // What the records of a ticket are decoded to, for loops over many of them: lists of bare numbers, filled as far as the records and
 // the list go. A shift is added to each value modulo p, so that what a value in range stands for is not negative. What comes of other
-// values is fixed too, and means nothing.
+// values is fixed too, and means nothing. There is a loop for each kind of list: it is one line, and a loop over a closure would need a
+// contract for it.
 ghost use Rattle.std.specs.Prelude.{◌≡◌, ◌+◌, ◌*◌, ◌%◌, ◌^◌};
 ghost use Rattle.residue.specs.Rules.{modulus};
 ghost use Rattle.residue.specs.Laws.Modulo.{carried_sum};

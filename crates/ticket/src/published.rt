@@ -33,9 +33,9 @@ pub struct BiasSetting {
 }
 
 impl PlainSetting {
-    // The setting with or without a bias, and with its bound.
-    pub fn numbered(self, biased: u32, bias: u32) -> Setting
-        ensures { result ≡ numbered self biased bias }
+    // The setting with or without a bias, whose bound it is.
+    pub fn numbered(self, bias: Option<u32>) -> Setting
+        ensures { result ≡ numbered self bias }
     {
         Setting {
             rows: self.rows,
@@ -46,7 +46,6 @@ impl PlainSetting {
             bound: self.bound,
             width: self.width,
             rounding: self.rounding,
-            biased,
             bias,
         }
     }
@@ -57,7 +56,7 @@ impl From<PlainSetting> for Setting {
     ghost from_gives = { λ public setting. setting ≡ plain public };
 
     fn from(public: PlainSetting) -> Setting {
-        public.numbered(0, 0)
+        public.numbered(None)
     }
 }
 
@@ -66,6 +65,6 @@ impl From<BiasSetting> for Setting {
     ghost from_gives = { λ public setting. setting ≡ with_bias public.setting public.bias };
 
     fn from(public: BiasSetting) -> Setting {
-        public.setting.numbered(1, public.bias)
+        public.setting.numbered(Some(public.bias))
     }
 }

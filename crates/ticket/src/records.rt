@@ -15,8 +15,8 @@ use residue::Residue;
 // Rows of at most so many records are not worth the pass without branches.
 const SHORT_ROW: u8 = 2;
 
-// What the records of a part have to be. A value is in range where, shift added modulo p, it is below limit; outside is the
-// number of the answer for one that is not.
+// What the records of a part have to be. The kind is a number, since it is that byte of a record. A value is in range where, shift
+// added modulo p, it is below limit; outside is the reason for one that is not.
 #[derive(Clone, Copy)]
 struct Form {
     kind: u8,

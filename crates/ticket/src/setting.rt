@@ -22,12 +22,11 @@ pub struct Setting {
     pub bound: u32,
     pub width: u32,
     pub rounding: u32,
-    // above 0 where a bias is added to each sum; else its bound is not read. A word, so that a setting is copied in whole words
-    pub biased: u32,
-    pub bias: u32,
+    // the largest absolute value of a bias entry, where a bias is added to each sum
+    pub bias: Option<u32>,
 }
 
-// Which part of a ticket, by its number in the ticket's order.
+// Which part of a ticket, by its number in the ticket's order; a number and no enum, since the calls that take it answer for every number.
 #[derive(Clone, Copy, Debug, PartialEq, Eq)]
 pub struct PartNumber(pub u32);
 
@@ -113,14 +112,17 @@ impl Setting {
     pub fn largest_bias(self) -> u32
         ensures { result ≡ bias_bound self }
     {
-        if 0 < self.biased { self.bias } else { 0 }
+        self.bias.unwrap_or(0)
     }
 
     // How many columns the bias has; 0 where there is none.
     pub fn bias_columns(self) -> u32
         ensures { result ≡ bias_columns self }
     {
-        if 0 < self.biased { self.columns } else { 0 }
+        match self.bias {
+            Some(_) => self.columns,
+            None => 0,
+        }
     }
 
     // How many records a part has.

@@ -5,7 +5,6 @@
 --   sizes_of, numbers_of   the first two, from their tests
 --   Within G, limits_of    all three, from the tests of the setting
 --   setting_numbered       the numbers of the tests
---   bias_flag, no_bias_flag   whether there is a bias
 --   with_bias_lem, without_bias   bound and columns of the bias, where there is one and where there is none
 --   half_small, half_double   half of the quotients' range is small, and twice that is the range
 --   FitProducts G, fit_products   the products of the test of the fit, none of them large
@@ -14,8 +13,9 @@
 --   clamped_same           that is the setting itself, where it is within its limits
 --   number_by_lem              by that half it is the setting's number
 --   lift_made              the lift as the code makes it, of that half, is the setting's and below p
-use Rattle.std.specs.Prelude.{◌≡◌, ℕ, suc, ◌+◌, ◌-◌, ◌*◌, ◌^◌, ◌<◌, ◌≤◌, Bool, true, false, ◌&&◌, refl}
+use Rattle.std.specs.Prelude.{◌≡◌, ℕ, suc, ◌+◌, ◌-◌, ◌*◌, ◌^◌, ◌<◌, ◌≤◌, Bool, true, false, ◌&&◌, Option, Some, None, is_some, refl}
 use Rattle.std.proofs.Common.{le_trans, mul-le-mul, pow-suc, arith, sym, ap, subst, ◌∙◌, true≢false, inl, inr, ⊎_elim, pow_mono}
+use Rattle.std.specs.Option.{unwrap_or}
 use Rattle.std.proofs.Math.Nat.{min-eq_left, min-le_right}
 use Rattle.std.proofs.Math.Bool.{and-eq-true_iff}
 use borrow.Author.Tests.{leb-true, ltb-true, le-leb, lt-ltb, le-ltb}
@@ -43,22 +43,18 @@ pub record FitProducts (G : Setting) : Type 0 where
   pub sums : G.inner * (G.bound * G.bound) ≤ most_inner * (most_bound * most_bound)
   pub lifted : (half : ℕ) → half ≤ 2 ^ 32 → half * G.scale ≤ 2 ^ 32 * most_scale
 
+none_bound : (b : Option ℕ) → is_some b ≡ false → unwrap_or b 0 ≡ 0
+none_bound (Some _) e = absurd (true≢false e)
+none_bound None e = refl
+
 module _ (G : Setting) where
-  pub bias_flag : 0 < G.biased → has_bias G ≡ true
-  unfolding has_bias
-  bias_flag l = lt-ltb 0 G.biased l
-
-  pub no_bias_flag : G.biased ≤ 0 → has_bias G ≡ false
-  unfolding has_bias
-  no_bias_flag l = le-ltb 0 G.biased l
-
-  pub with_bias_lem : has_bias G ≡ true → (bias_bound G ≡ G.bias) × (bias_columns G ≡ G.columns)
+  pub with_bias_lem : has_bias G ≡ true → (bias_bound G ≡ unwrap_or G.bias 0) × (bias_columns G ≡ G.columns)
   unfolding bias_bound bias_columns
   with_bias_lem e = rw e (refl, refl)
 
   pub without_bias : has_bias G ≡ false → (bias_bound G ≡ 0) × (bias_columns G ≡ 0)
-  unfolding bias_bound bias_columns
-  without_bias e = rw e (refl, refl)
+  unfolding has_bias bias_bound bias_columns
+  without_bias e = (none_bound G.bias e, rw e)
 
 pub sizes_of : (G : Setting) → sizes_within G ≡ true → Sizes G
 unfolding sizes_within

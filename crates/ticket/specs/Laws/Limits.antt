@@ -57,7 +57,6 @@ renumbered G s v o =
       bound = G.bound;
       width = v;
       rounding = o;
-      biased = G.biased;
       bias = G.bias;
     }
 
@@ -72,7 +71,6 @@ clamped G =
       bound = G.bound;
       width = min G.width most_width;
       rounding = G.rounding;
-      biased = G.biased;
       bias = G.bias;
     }
 
