@@ -1,9 +1,8 @@
 // Whether a run is finished, how it goes on, and what is said of it.
 ghost use Rattle.std.specs.Prelude.{◌≡◌};
 ghost use Rattle.ticket.specs.Rules.{answer, plain};
-ghost use Rattle.ticket.specs.Laws.Limits.{Sizes};
-ghost use Rattle.run.specs.Rules.{is_caught, is_finished, is_open, is_past, layer, marked, products_done, refused, standing};
-ghost use Rattle.run.specs.Laws.States.{DoneReady, due, mark_of, proceeded};
+ghost use Rattle.run.specs.Rules.{is_caught, is_finished, is_open, is_past, marked, products_done, standing, tested};
+ghost use Rattle.run.specs.Laws.States.{Answerable, DoneReady, due, mark_of, proceeded};
 
 use crate::{Run, RunAnswer};
 use challenge::RowAnswer;
@@ -68,11 +67,12 @@ impl Run {
         self.vector
     }
 
-    // The state after a row, where one was due: with its u, and caught, or on to the next row, after the last to the first of the next vector.
+    // The state after a row, where one was due and the tests passed: with its u, and caught, or on to the next row, after the last to the first of
+    // the next vector.
     pub(crate) fn proceeded(mut self, made: RowAnswer) -> Run
         ensures { result ≡ proceeded self made }
     {
-        if !self.is_finished() {
+        if (made.tested.number == 0) & !self.is_finished() {
             let u = made.u;
             self.u = u;
             if made.balanced {
@@ -88,23 +88,12 @@ impl Run {
         self
     }
 
-    // The answer of a refusal, with the state as it is.
-    pub(crate) fn refused(self, answer: Answer) -> RunAnswer
-        ensures { result ≡ marked self refused answer }
+    // The answer of a state after tests: their refusal, or that of the state by itself. The state is put into it in one place, for speed.
+    pub(crate) fn answered(self, read: Answer) -> RunAnswer
+        requires { Answerable self read }
+        ensures { result ≡ tested self read (standing self) }
     {
-        RunAnswer {
-            run: self,
-            mark: Standing::Refused.into(),
-            answer,
-        }
-    }
-
-    // The answer of a state by itself. The state is put into it in one place, for speed.
-    pub(crate) fn answered(self) -> RunAnswer
-        requires { Sizes (layer self) }
-        ensures { result ≡ standing self }
-    {
-        let (standing, answer) = self.told();
+        let (standing, answer) = self.told(read);
         RunAnswer {
             run: self,
             mark: standing.into(),
@@ -112,11 +101,14 @@ impl Run {
         }
     }
 
-    // How a state stands, and its answer's numbers.
-    fn told(&self) -> (Standing, Answer)
-        requires { Sizes (layer self.now) }
-        ensures { marked self.now (mark_of result.0) result.1 ≡ standing self.now }
+    // How a state stands after tests, and its answer's numbers. The tests' is an answer, as the rule of a row has it.
+    fn told(&self, read: Answer) -> (Standing, Answer)
+        requires { Answerable self.now read }
+        ensures { marked self.now (mark_of result.0) result.1 ≡ tested self.now read (standing self.now) }
     {
+        if read.number != 0 {
+            return (Standing::Refused, read);
+        }
         let setting = self.setting;
         if self.is_past() {
             let products = products_done(setting, setting.vectors, 0);

@@ -58,13 +58,13 @@ impl Run {
         ensures { result ≡ beginning setting ticket.now list.now }
     {
         if let Err(refusal) = challenge::read(Setting::from(setting), ticket, list) {
-            return lists::zeros().refused(Answer::from(refusal));
+            return lists::zeros().answered(Answer::from(refusal));
         }
-        lists::begun(setting, list).answered()
+        lists::begun(setting, list).answered(Answer::PASSED)
     }
 
     // The ordinary tests of the state and of the ticket lent, then one row, where the run is not finished.
-    pub fn step(mut self, ticket: &[u8]) -> RunAnswer
+    pub fn step(self, ticket: &[u8]) -> RunAnswer
         ensures { result ≡ stepping self ticket.now }
     {
         // copied out, since a list or u that is lent where it stands in the state takes longer
@@ -78,22 +78,16 @@ impl Run {
             self.row,
             before,
         );
-        // an answer, as the rule of a row has it
-        if made.tested.number != 0 {
-            return self.refused(made.tested);
-        }
-        self = self.proceeded(made);
-        self.answered()
+        self.proceeded(made).answered(made.tested)
     }
 
     // The tests of the state and of a vector, which then joins the end of the list, where the run is not finished and has room for it.
-    pub fn add(mut self, vector: &[u32]) -> RunAnswer
+    pub fn add(self, vector: &[u32]) -> RunAnswer
         ensures { result ≡ adding self vector.now }
     {
         if let Err(refusal) = self.read_addition(vector) {
-            return self.refused(Answer::from(refusal));
+            return self.answered(Answer::from(refusal));
         }
-        self = self.lengthened(vector);
-        self.answered()
+        self.lengthened(vector).answered(Answer::PASSED)
     }
 }

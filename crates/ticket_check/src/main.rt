@@ -2,7 +2,7 @@
 // challenge check's answer. A file that is missing or cannot be read counts as empty.
 #![tactic(auto)]
 
-ghost use Rattle.std.specs.Prelude.{◌≡◌, ◌≤◌, take};
+ghost use Rattle.std.specs.Prelude.{◌≡◌, ◌≤◌, length, take};
 ghost use Rattle.files.specs.Laws.Prefixes.{Leads};
 ghost use Rattle.files.specs.Laws.Starts.{BuffersRoom, AnswerFor};
 
@@ -29,14 +29,24 @@ struct Start<const ROOM: usize> {
 }
 
 impl<const ROOM: usize> Start<ROOM> {
-    // Of the file of this name.
-    fn read(files: &impl Files, name: &str) -> Start<ROOM> {
-        let mut bytes = [0; ROOM];
-        let length = match File::open(files, name) {
-            Ok(mut file) => fill(&mut file, &mut bytes),
+    // Of no file yet.
+    fn new() -> Start<ROOM>
+        ensures { result.length ≡ 0 }
+    {
+        Start {
+            bytes: [0; ROOM],
+            length: 0,
+        }
+    }
+
+    // Of the file of this name. They are read to where they stay, since a copy takes longer and more stack.
+    fn read(&mut self, files: &impl Files, name: &str)
+        ensures { Leads self.new.length self.new.bytes × (length self.new.bytes ≡ ROOM) }
+    {
+        self.length = match File::open(files, name) {
+            Ok(mut file) => fill(&mut file, &mut self.bytes),
             Err(_) => 0,
         };
-        Start { bytes, length }
     }
 
     fn as_slice(&self) -> &[u8]
@@ -47,10 +57,13 @@ impl<const ROOM: usize> Start<ROOM> {
 }
 
 fn main(rt: HostRuntime) -> io::Result<()> {
-    let setting = Start::read(&rt, "setting.rec");
-    let ticket = Start::read(&rt, "ticket.rec");
-    let challenge = Start::read(&rt, "challenge.rec");
-    let answer = check::<SETTING_ROOM, TICKET_ROOM, CHALLENGE_ROOM>(&setting, &ticket, &challenge);
+    let mut setting = Start::<SETTING_ROOM>::new();
+    let mut ticket = Start::<TICKET_ROOM>::new();
+    let mut challenge = Start::<CHALLENGE_ROOM>::new();
+    setting.read(&rt, "setting.rec");
+    ticket.read(&rt, "ticket.rec");
+    challenge.read(&rt, "challenge.rec");
+    let answer = check(&setting, &ticket, &challenge);
     let mut line = [0; LONGEST_LINE];
     let length = files::line(answer, &mut line);
     rt.stdout().write_all(&line[..length])

@@ -58,7 +58,8 @@ module _ {D : Decoded} {old sums : List ℕ} {i before : ℕ}
   row_untrue {j} untrue e =
       let first_is = sym (rw row_long at untrue.0) in
       let l : j < n = omega (arith, untrue.1, row_long) in
-      (run_breaks ready.run ready.within _ alike first_is l (ap (answer 16 (i * n + j) 0) (omega (arith, ready.made)))).stopping (suc-ne-zero 15)
+      let other = suc-ne-zero 15 in
+      (other, (run_breaks ready.run ready.within _ alike first_is l (ap (answer 16 (i * n + j) 0) (omega (arith, ready.made)))).stopping other)
 
   pub row_true : {products : ℕ} → FirstFound (length sums) (claimed_for sums claims D.lift) None → products ≡ before + D.setting.inner * n
       → RowCompared D i (Ok products)

@@ -7,9 +7,9 @@
 --   steps D                those of the lists D
 --   SumsReady D n          the lists are as long as the setting needs them, n is the length of a row of sums, and the lift is the setting's
 --   SumRowReady D n i k    so it is for row i, k products were made in the rows before, and no number of the row is large
---   RowCompared D i r      r is the products of the rows up to row i, which agree, or else the answer of all rows
+--   RowCompared D i r      r is the products of the rows up to row i, which agree, or else the answer of all rows, which has another number than 0
 --   compared r             the answer, by the products or the answer of the first untrue claim
-use Rattle.std.specs.Prelude.{◌≡◌, ℕ, ◌+◌, ◌*◌, ◌/◌, ◌%◌, ◌^◌, ◌<◌, ◌≤◌, Bool, List, length, ℤ, ◌==◌, slice_index, refl, Option, None, Some, Result, Ok, Err}
+use Rattle.std.specs.Prelude.{◌≡◌, ℕ, ◌+◌, ◌*◌, ◌/◌, ◌%◌, ◌^◌, ◌<◌, ◌≤◌, Bool, List, length, ℤ, ◌==◌, ◌≢◌, slice_index, refl, Option, None, Some, Result, Ok, Err}
 use Rattle.std.proofs.Math.Nat.{suc-ne-zero}
 use Rattle.algebra.specs.Laws.Fills.{line_at}
 use Rattle.exact.specs.Rules.{dot_product}
@@ -64,7 +64,7 @@ pub record SumRowReady (D : Decoded) (row i before : ℕ) : Type 0 where
 
 abbrev pub RowCompared : Decoded → ℕ → Result ℕ Answer → Type 0
 RowCompared D i (Ok products) = RunTo (steps D) (i * D.setting.columns + D.setting.columns) (answer 0 0 0 products)
-RowCompared D i (Err untrue) = untrue ≡ steps_answer (steps D)
+RowCompared D i (Err untrue) = (untrue.number ≢ 0) × (untrue ≡ steps_answer (steps D))
 
 abbrev pub compared : Result ℕ Answer → Answer
 compared (Ok products) = answer 0 0 0 products

@@ -36,7 +36,6 @@ use Rattle.challenge.proofs.Laws.Lists.{well_formed_is, list_place}
 use Rattle.run.specs.declared.Run.{Run}
 use Rattle.run.specs.Rules.{layer, most_numbers, held_list, is_finished, zeros, begun, one_more, lengthened, is_open, addition_reading, overwritten}
 use Rattle.run.specs.Laws.Additions.{Additional}
-use Rattle.run.specs.Laws.States.{due}
 
 module _ (R : Run) (long : length R.list ≡ most_numbers) {G : Setting} (G-is : G ≡ layer R) {x : List ℕ}
     (x-is : x ≡ take (cond (leb R.length (length R.list)) R.length 0) R.list) where
@@ -44,9 +43,8 @@ module _ (R : Run) (long : length R.list ≡ most_numbers) {G : Setting} (G-is :
   unfolding held_list
   held_is = x-is ∙ rw long
 
-  pub row_held : {τ : ℕ} → τ ≡ due R → (t : List ℕ) {r : RowAnswer} → r ≡ row_check G t x τ R.row R.u
-      → r ≡ row_check (layer R) t (held_list R) (due R) R.row R.u
-  row_held τ-is t r-is = r-is ∙ rw (G-is, held_is, τ-is)
+  pub row_held : (t : List ℕ) (τ i : ℕ) (u : List ℕ) {r : RowAnswer} → r ≡ row_check G t x τ i u → r ≡ row_check (layer R) t (held_list R) τ i u
+  row_held t τ i u r-is = r-is ∙ rw (G-is, held_is)
 
   pub reading_held : {a : Answer} → a ≡ after (refusal (setting_number G) 0) (list_reading G x)
       → a ≡ after (refusal (setting_number (layer R)) 0) (list_reading (layer R) (held_list R))

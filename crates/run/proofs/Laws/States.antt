@@ -10,17 +10,16 @@
 --   testing_plain      the ordinary tests of a setting without a bias
 --   testing_passed     where the ordinary tests pass, setting, ticket and list do
 --   proceeding         the next vector and row are then there
---   proceeded_finished, proceeded_caught, proceeded_within, proceeded_over   it by the four ways in which that may go
---   step_refused, step_sizes, step_passed   the answer of a step, by that state: it can be given, and is that of the rule
---   step_made          the same in one, by the three cases of refused, finished and gone on
+--   proceeded_none, proceeded_caught, proceeded_within, proceeded_over   it by the four ways in which that may go
+--   step_sizes, step_made   the answer of a step, by that state: it can be given, and is that of the rule
 --   Worked R t R', worked_is   the state after the row is R', by the three ways in which a row ends
 --   worked_same, worked_count   setting and list stay, and one row more is done
-use Rattle.std.specs.Prelude.{ℕ, ◌+◌, ◌*◌, ◌≤◌, ◌<◌, ◌≡◌, Bool, ◌||◌, List, ltb}
+use Rattle.std.specs.Prelude.{ℕ, ◌+◌, ◌*◌, ◌≤◌, ◌<◌, ◌≡◌, Bool, ◌&&◌, ◌||◌, List, eqb, ltb}
 use Rattle.std.proofs.Math.Decide.{ℕ_discrete, dec_lt}
 use Rattle.std.proofs.Common.{mul-le-mul, ◌∙◌, true≢false, inl, ⊎_elim}
 use native.Mathlib.Omega.{arith}
 use Rattle.std.proofs.Math.Path.{refl, sym, ap}
-use Rattle.std.proofs.Math.Bool.{true, false, cond}
+use Rattle.std.proofs.Math.Bool.{true, false, cond, not}
 use Rattle.std.proofs.lemmas.Bool.{false≢true}
 use borrow.Author.Tests.{eq-eqb, ne_eqb, lt-ltb, le-ltb, leb-false}
 use Rattle.ticket.specs.declared.published.PlainSetting.{PlainSetting}
@@ -40,7 +39,7 @@ use Rattle.challenge.specs.Laws.Vectors.{ListReady}
 use Rattle.run.specs.declared.Run.{Run}
 use Rattle.run.specs.declared.RunAnswer.{RunAnswer}
 use Rattle.run.specs.Rules.{layer, held_list, is_past, is_caught, is_finished, products_done, under_way, caught_mark, complete, refused, marked, standing, tested, placed, moved, worked, stepping}
-use Rattle.run.specs.Laws.States.{DoneReady, due, proceeded}
+use Rattle.run.specs.Laws.States.{DoneReady, Answerable, due, proceeded}
 
 -- products
 
@@ -141,18 +140,20 @@ testing_passed G t x a-is z =
 
 -- a step
 
-module _ (R : Run) (a : RowAnswer) {f : Bool} (f-is : f ≡ is_finished R) where
-  pub proceeded_finished : f ≡ true → R ≡ proceeded R a
+module _ (R : Run) (a : RowAnswer) where
+  pub proceeded_none : (eqb a.tested.number 0 && not (is_finished R)) ≡ false → R ≡ proceeded R a
   unfolding proceeded
-  proceeded_finished e = sym (rw (sym f-is ∙ e))
+  proceeded_none e = sym (rw e)
 
-  module _ (going : f ≡ false) where
-    on : is_finished R ≡ false
-    on = sym f-is ∙ going
-
+  module _ (on : (eqb a.tested.number 0 && not (is_finished R)) ≡ true) where
     -- the next vector and row are there
     pub proceeding : (R.vector < R.setting.vectors) × (R.row < R.setting.rows)
-    proceeding = not_past R (unfinished R on).0
+    proceeding = not_past R (unfinished R (second (eqb a.tested.number 0) (is_finished R) on)).0
+      where
+        second : (b f : Bool) → (b && not f) ≡ true → f ≡ false
+        second true false e = refl
+        second true true e = absurd (false≢true e)
+        second false f e = absurd (false≢true e)
 
     pub proceeded_caught : a.balanced ≡ false → placed R a.u R.vector R.row 1 ≡ proceeded R a
     unfolding proceeded
@@ -166,16 +167,16 @@ module _ (R : Run) (a : RowAnswer) {f : Bool} (f-is : f ≡ is_finished R) where
     unfolding proceeded moved
     proceeded_over e l = sym (rw (on, e, le-ltb (R.row + 1) R.setting.rows l))
 
-proceeded_setting : (R : Run) (a : RowAnswer) → (proceeded R a).setting ≡ R.setting
-unfolding proceeded moved
-proceeded_setting R a = by_tests (is_finished R) a.balanced (ltb (R.row + 1) R.setting.rows)
-  where
-    by_tests : (f b l : Bool) → (cond f R (unless b (placed R a.u R.vector R.row 1)
-        (cond l (placed R a.u R.vector (R.row + 1) R.caught) (placed R a.u (R.vector + 1) 0 R.caught)))).setting ≡ R.setting
-    by_tests true b l = refl
-    by_tests false true true = refl
-    by_tests false true false = refl
-    by_tests false false l = refl
+  proceeded_setting : (proceeded R a).setting ≡ R.setting
+  unfolding proceeded moved
+  proceeded_setting = by_tests (eqb a.tested.number 0 && not (is_finished R)) a.balanced (ltb (R.row + 1) R.setting.rows)
+    where
+      by_tests : (on b l : Bool) → (cond on (unless b (placed R a.u R.vector R.row 1)
+          (cond l (placed R a.u R.vector (R.row + 1) R.caught) (placed R a.u (R.vector + 1) 0 R.caught))) R).setting ≡ R.setting
+      by_tests true true true = refl
+      by_tests true true false = refl
+      by_tests true false l = refl
+      by_tests false b l = refl
 
 module _ (R : Run) (t : List ℕ) {a : RowAnswer} (a-is : a ≡ row_check (layer R) t (held_list R) (due R) R.row R.u) where
   abbrev tests : Answer
@@ -211,25 +212,26 @@ module _ (R : Run) (t : List ℕ) {a : RowAnswer} (a-is : a ≡ row_check (layer
 
   goes_on : tests.number ≡ 0 → proceeded R a ≡ cond (is_finished R) R (worked R t)
   unfolding proceeded worked
-  goes_on z = ⊎_elim (λ e. rw e) (λ e. rw (made_row z e, e)) (true_or_false (is_finished R))
+  goes_on z =
+      ⊎_elim
+      (λ (e : is_finished R ≡ true). rw (eq-eqb a.tested.number 0 (row_passes z), e))
+      (λ (e : is_finished R ≡ false). rw (made_row z e, e))
+      (true_or_false (is_finished R))
 
-  pub step_refused : (a.tested.number ≡ 0 → ⊥) → {r : RunAnswer} → r ≡ marked R refused a.tested → r ≡ stepping R t
-  step_refused d r-is =
-      let fails = λ (z : tests.number ≡ 0). d (row_passes z) in
-      tested_refused R (ap (λ b. b.tested) (refused_row fails)) _ d r-is
-
-  pub step_sizes : a.tested.number ≡ 0 → Sizes (layer (proceeded R a))
+  pub step_sizes : Answerable (proceeded R a) a.tested
   step_sizes y = rw (proceeded_setting R a) (testing_passed (layer R) t (held_list R) refl (row_passed y)).passed.counts.sizes
 
-  pub step_passed : a.tested.number ≡ 0 → {r : RunAnswer} → r ≡ standing (proceeded R a) → r ≡ stepping R t
-  step_passed y r-is = tested_passed R refl (row_passed y) (r-is ∙ ap standing (goes_on (row_passed y)))
-
-  pub step_made : {r : RunAnswer} → r ≡ tested R a.tested (standing (proceeded R a)) → r ≡ stepping R t
-  unfolding tested
+  pub step_made : {r : RunAnswer} → let S = proceeded R a in r ≡ tested S a.tested (standing S) → r ≡ stepping R t
   step_made r-is =
       elim (ℕ_discrete a.tested.number 0) [
-        | yes y ↦ step_passed y (r-is ∙ rw (eq-eqb a.tested.number 0 y))
-        | no d ↦ step_refused d (r-is ∙ rw (ne_eqb a.tested.number 0 d))
+        | yes y ↦
+            let z = row_passed y in
+            tested_passed R refl z (r-is ∙ sym (tested_passed _ refl y refl) ∙ ap standing (goes_on z))
+        | no d ↦
+            let stays = proceeded_none R a (rw (ne_eqb a.tested.number 0 d)) in
+            let fails = λ (z : tests.number ≡ 0). d (row_passes z) in
+            tested_refused R (ap (λ b. b.tested) (refused_row fails)) _ d
+            (r-is ∙ sym (tested_refused _ refl _ d refl) ∙ ap (λ S. marked S refused a.tested) (sym stays))
       ]
 
 -- the three ways in which a row ends

@@ -98,7 +98,8 @@ module _ (P : PlainSetting) (W : ℕ) where
   H = with_bias P W
 
   some : (bias_bound H ≡ W) × (bias_columns H ≡ P.columns)
-  some = with_bias_lem H (bias_some P W)
+  unfolding bias_bound
+  some = (refl, (with_bias_lem H (bias_some P W)).1)
 
   pub bias_length : ticket_length (with_bias P W) ≡ 8 * (P.rows * P.inner + P.inner * P.columns + 3 * (P.rows * P.columns))
   bias_length = omega (arith, length_is H, ap (λ n. P.rows * n) some.1)

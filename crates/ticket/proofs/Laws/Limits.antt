@@ -47,10 +47,14 @@ none_bound : (b : Option ℕ) → is_some b ≡ false → unwrap_or b 0 ≡ 0
 none_bound (Some _) e = absurd (true≢false e)
 none_bound None e = refl
 
+some_bound : (b : Option ℕ) → is_some b ≡ true → b ≡ Some (unwrap_or b 0)
+some_bound (Some _) e = refl
+some_bound None e = absurd (true≢false (sym e))
+
 module _ (G : Setting) where
-  pub with_bias_lem : has_bias G ≡ true → (bias_bound G ≡ unwrap_or G.bias 0) × (bias_columns G ≡ G.columns)
-  unfolding bias_bound bias_columns
-  with_bias_lem e = rw e (refl, refl)
+  pub with_bias_lem : has_bias G ≡ true → (G.bias ≡ Some (bias_bound G)) × (bias_columns G ≡ G.columns)
+  unfolding has_bias bias_bound bias_columns
+  with_bias_lem e = (some_bound G.bias e, rw e)
 
   pub without_bias : has_bias G ≡ false → (bias_bound G ≡ 0) × (bias_columns G ≡ 0)
   unfolding has_bias bias_bound bias_columns
