@@ -72,6 +72,7 @@ impl Run {
     pub(crate) fn proceeded(mut self, made: RowAnswer) -> Run
         ensures { result ≡ proceeded self made }
     {
+        // a row's tests are an answer, as its rule has it
         if (made.tested.number == 0) & !self.is_finished() {
             let u = made.u;
             self.u = u;

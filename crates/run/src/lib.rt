@@ -64,7 +64,7 @@ impl Run {
     }
 
     // The ordinary tests of the state and of the ticket lent, then one row, where the run is not finished.
-    pub fn step(self, ticket: &[u8]) -> RunAnswer
+    pub fn step(mut self, ticket: &[u8]) -> RunAnswer
         ensures { result ≡ stepping self ticket.now }
     {
         // copied out, since a list or u that is lent where it stands in the state takes longer
@@ -78,16 +78,18 @@ impl Run {
             self.row,
             before,
         );
-        self.proceeded(made).answered(made.tested)
+        self = self.proceeded(made);
+        self.answered(made.tested)
     }
 
     // The tests of the state and of a vector, which then joins the end of the list, where the run is not finished and has room for it.
-    pub fn add(self, vector: &[u32]) -> RunAnswer
+    pub fn add(mut self, vector: &[u32]) -> RunAnswer
         ensures { result ≡ adding self vector.now }
     {
         if let Err(refusal) = self.read_addition(vector) {
             return self.answered(Answer::from(refusal));
         }
-        self.lengthened(vector).answered(Answer::PASSED)
+        self = self.lengthened(vector);
+        self.answered(Answer::PASSED)
     }
 }

@@ -5,14 +5,14 @@ use Rattle.run.proofs.Laws.Additions.{addition_passed, lengthened_sizes}
 use Rattle.run.proofs.Laws.States.{tested_refused, tested_passed}
 use Rattle.run.proofs.Run.add.Goals as goal
 
-pub lengthened-requires : goal.lengthened-requires
-lengthened-requires c = addition_passed _ _ (passed_zero c.in_default.ensures)
+pub lengthened-self-requires : goal.lengthened-self-requires
+lengthened-self-requires c = addition_passed _ _ (passed_zero c.in_default.ensures)
 
 pub answered-requires-2 : goal.answered-requires-2
-answered-requires-2 c = λ z. rw c.lengthened.ensures (lengthened_sizes (addition_passed _ _ (passed_zero c.in_default.ensures)))
+answered-requires-2 c = λ z. rw c.lengthened-self.ensures (lengthened_sizes (addition_passed _ _ (passed_zero c.in_default.ensures)))
 
 pub returns : goal.returns
-returns c = tested_passed _ c.in_default.ensures refl (c.answered-2.ensures ∙ sym (tested_passed _ refl refl refl) ∙ ap standing c.lengthened.ensures)
+returns c = tested_passed _ c.in_default.ensures refl (c.answered-2.ensures ∙ sym (tested_passed _ refl refl refl) ∙ ap standing c.lengthened-self.ensures)
 
 pub returns-in-Err : goal.returns-in-Err
 returns-in-Err c =
